@@ -1,0 +1,3 @@
+// The shape of the store and the refusals: numbers only, no state.
+pub mod numbers;
+pub mod refusal;

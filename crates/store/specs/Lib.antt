@@ -1,0 +1,4 @@
+pub mod State
+pub mod Requests
+pub mod Rounds
+pub mod Rule

@@ -1,0 +1,5 @@
+// What a store is to the client: places that hold slots, asked in rounds.
+pub mod admit;
+pub mod entry;
+pub mod meter;
+pub mod store;
