@@ -59,7 +59,8 @@ impl Refusal {
             Refusal::UnknownAddress => "address not below the number of blocks",
             Refusal::WrongByteLength => "byte run of the wrong length",
             Refusal::TraceTooShort => "trace shorter than the entries of the call",
-            Refusal::WrongTable => "table of the wrong length, or no permutation, or builds out of range",
+            Refusal::WrongTable =>
+                "table of the wrong length, or no permutation, or builds out of range",
             Refusal::WrongRound => "no place, more than 13, or lengths that do not match",
             Refusal::PlaceBeyondStore => "place beyond the store",
             Refusal::WrongListChange => "no such list, or an address that it cannot take",

@@ -24,7 +24,13 @@ fn lies_inside(count: u32, places: &[u32]) -> bool
     true
 }
 
-pub fn admit(width: usize, count: u32, places: &[u32], keys: usize, bytes: usize) -> Result<(), Refusal>
+pub fn admit(
+    width: usize,
+    count: u32,
+    places: &[u32],
+    keys: usize,
+    bytes: usize,
+) -> Result<(), Refusal>
     ensures { λ r. ⌜ r ≡ verdict width count (now (places .entry)) keys bytes ⌝ }
 {
     if !is_well_formed(width, places.len(), keys, bytes) {

@@ -24,7 +24,10 @@ impl Meter {
         ensures served { λ r. ⌜ r .served ≡ 0 ⌝ }
         ensures trail { λ r. ⌜ r .trail ≡ 0 ⌝ }
     {
-        Meter { served: 0, trail: 0 }
+        Meter {
+            served: 0,
+            trail: 0,
+        }
     }
 
     pub fn served(&self) -> u64
@@ -54,7 +57,11 @@ impl Meter {
     {
         let mut begins = true;
         for p in places {
-            self.note(Entry { begins, write, place: *p });
+            self.note(Entry {
+                begins,
+                write,
+                place: *p,
+            });
             begins = false;
         }
     }
