@@ -12,10 +12,10 @@ use Rattle.store.specs.Rounds.{inside}
 use Rattle.store.proofs.Rounds.{inside-at}
 use borrow.Rule.Slice.PartMut.{putMid}
 use Rattle.std.proofs.shelf.Parts.{take-putMid, drop-putMid}
-use Rattle.std.proofs.shelf.Bits.{mul-le}
 use Rattle.std.proofs.shelf.Counted.{getD-map-counting}
 use native.Mathlib.Nat.{suc-mul}
 use native.Mathlib.Numerals.{add-one}
+use Rattle.shape.proofs.Products.{part-fits}
 use Rattle.store.specs.State.{slot-at}
 use Rattle.memory_store.specs.Memory.{overwritten, decoded, slot-from, span, stored, key-bytes}
 
@@ -32,13 +32,9 @@ two-writes xs ys zs a b j k ey ez eb h =
 
 -- ---- where slots and payloads lie
 
--- a slot at a place below n ends within n slots
-pub place-fits : (n p size len : ℕ) → p < n → n * size ≤ len → p * size + size ≤ len
-place-fits n p size len h l = omega (arith, suc-mul p size, mul-le (suc p) size n size (omega arith) (omega arith))
-
 -- the payload of the i-th of m places ends within m payloads
 pub payload-fits : (m i w : ℕ) → i < m → i * w + w ≤ m * w
-payload-fits m i w h = place-fits m i w (m * w) h (omega arith)
+payload-fits m i w h = part-fits m i w (m * w) h (omega arith)
 
 pub next-payload : (i w : ℕ) → i * w + w ≡ (i + 1) * w
 next-payload i w = rw add-one (sym (suc-mul i w))
@@ -49,7 +45,7 @@ decoded-at w n bs p h = getD-map-counting (λ q. slot-from w bs (q * span w)) 0 
 
 -- the slot of the i-th place lies within the memory of n slots
 pub slot-inside : (n w len : ℕ) (ps : List ℕ) (i : ℕ) → inside n ps ≡ true → n * span w ≤ len → i < length ps → getD ps i 0 * span w + span w ≤ len
-slot-inside n w len ps i all fits h = place-fits n (getD ps i 0) (span w) len (inside-at n ps i all h) fits
+slot-inside n w len ps i all fits h = part-fits n (getD ps i 0) (span w) len (inside-at n ps i all h) fits
 
 -- the part between two ends is as long as it should be
 pub length-part : (xs : List ℕ) (a n : ℕ) → a + n ≤ length xs → length (take ((a + n) - a) (drop a xs)) ≡ n

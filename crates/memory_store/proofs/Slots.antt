@@ -14,11 +14,12 @@ use Rattle.std.proofs.shelf.Lists.{same-lists, getD-append-left, getD-append-ri
 use Rattle.std.proofs.shelf.Bits.{mod-pow-add}
 use Rattle.std.proofs.shelf.Parts.{drop-putMid}
 use Rattle.std.proofs.shelf.Tests.{cases-order, ltb-true, and-parts}
+use Rattle.shape.proofs.Products.{part-fits}
 use Rattle.store.specs.State.{Slot, slot-at}
 use Rattle.store.specs.Requests.{wrote}
 use Rattle.store.specs.Rounds.{inside, putting}
 use Rattle.memory_store.specs.Memory.{span, key-of, key-bytes, slot-from, decoded, overwritten, stored}
-use Rattle.memory_store.proofs.Bytes.{place-fits, decoded-at}
+use Rattle.memory_store.proofs.Bytes.{decoded-at}
 
 -- ---- one write
 
@@ -102,18 +103,18 @@ module _ (w n : ℕ) (xs pl : List ℕ) (p k : ℕ) (h : p < n) (fits : n * span
   slot = record { key = k; bytes = pl }
 
   inner : p * span w + length (key-bytes k ++ pl) ≤ length xs
-  inner = omega (arith, place-fits n p (span w) (length xs) h fits)
+  inner = omega (arith, part-fits n p (span w) (length xs) h fits)
 
   here : (q : ℕ) (d : Slot) → q < n → (q ≡ p) ⊎ ((q < p) ⊎ (p < q)) → slot-from w after (q * span w) ≡ getD (set (decoded w n xs) p slot) q d
   unfolding after slot
   here q d l (inl e) =
-      let written = same-slot w xs pl (p * span w) k (place-fits n p (span w) (length xs) h fits) long small in
+      let written = same-slot w xs pl (p * span w) k (part-fits n p (span w) (length xs) h fits) long small in
       rw e (written ∙ sym (getD-set-same (decoded w n xs) p slot d (rw (length-map-counting (λ r. slot-from w xs (r * span w)) 0 n) h)))
   here q d l (inr (inl lt)) =
-      other-slot w xs (key-bytes k ++ pl) (p * span w) (q * span w) inner (inl (place-fits p q (span w) (p * span w) lt (omega arith)))
+      other-slot w xs (key-bytes k ++ pl) (p * span w) (q * span w) inner (inl (part-fits p q (span w) (p * span w) lt (omega arith)))
       ∙ sym (getD-set-other (decoded w n xs) p q slot d (λ e. omega arith) ∙ getD-map-counting (λ r. slot-from w xs (r * span w)) 0 n q q d l (omega arith))
   here q d l (inr (inr gt)) =
-      other-slot w xs (key-bytes k ++ pl) (p * span w) (q * span w) inner (inr (omega (arith, place-fits q p (span w) (q * span w) gt (omega arith))))
+      other-slot w xs (key-bytes k ++ pl) (p * span w) (q * span w) inner (inr (omega (arith, part-fits q p (span w) (q * span w) gt (omega arith))))
       ∙ sym (getD-set-other (decoded w n xs) p q slot d (λ e. omega arith) ∙ getD-map-counting (λ r. slot-from w xs (r * span w)) 0 n q q d l (omega arith))
 
   pub decoded-write : decoded w n (overwritten xs (p * span w) (key-bytes k ++ pl)) ≡ set (decoded w n xs) p (record { key = k; bytes = pl })
@@ -142,12 +143,12 @@ stored-decodes b w n (p ∷ ps) ks bs xs ins fits long small =
     let payload : length (take w bs) ≡ w = simp length-take (omega arith) in
     let left : length (drop w bs) ≡ length ps * w = simp length-drop (omega arith) in
     let next = overwritten xs (p * span w) (key-bytes k ++ take w bs) in
-    let inner = place-fits n p (span w) (length xs) h fits in
+    let inner = part-fits n p (span w) (length xs) h fits in
     let size : length next ≡ length xs = length-overwritten xs (key-bytes k ++ take w bs) (p * span w) (omega arith) in
     let rest = stored-decodes false w n ps (drop 1 ks) (drop w bs) next (both .1) (omega arith) left (λ i. rw (getD-drop 1 ks i 0) (small (1 + i))) in
     let here = decoded-write w n xs (take w bs) p k h fits payload (small 0) in (
       rest .0 ∙ ap (λ slots. wrote slots (putting false w ps (drop 1 ks) (drop w bs))) here,
-      rest .1 ∙ drop-overwritten xs (key-bytes k ++ take w bs) (p * span w) (n * span w) (omega arith) (omega (arith, place-fits n p (span w) (n * span w) h (omega arith))),
+      rest .1 ∙ drop-overwritten xs (key-bytes k ++ take w bs) (p * span w) (n * span w) (omega arith) (omega (arith, part-fits n p (span w) (n * span w) h (omega arith))),
       rest .2 ∙ size,
     )
 
@@ -156,7 +157,7 @@ stored-decodes b w n (p ∷ ps) ks bs xs ins fits long small =
 pub decoded-wide : (w n : ℕ) (xs : List ℕ) (p : ℕ) → n * span w ≤ length xs → p < length (decoded w n xs) → length (slot-at (decoded w n xs) p .bytes) ≡ w
 decoded-wide w n xs p fits h =
     let below : p < n = omega (arith, length-map-counting (λ r. slot-from w xs (r * span w)) 0 n) in
-    let inner = place-fits n p (span w) (length xs) below fits in
+    let inner = part-fits n p (span w) (length xs) below fits in
     rw (decoded-at w n xs p below) (simp (length-take, length-drop) (omega arith))
 
 pub decoded-length : (w n : ℕ) (xs : List ℕ) → length (decoded w n xs) ≡ n

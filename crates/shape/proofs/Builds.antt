@@ -23,3 +23,7 @@ level-at-most (suc L) b = at-most (b % 2) (level-of-build L (b / 2)) (level-at-m
     at-most : (d t : ℕ) → t ≤ L → under d t ≤ suc L
     at-most zero t h = omega arith
     at-most (suc d) t h = omega arith
+
+pub build-zero : (L : ℕ) → level-of-build L 0 ≡ L
+build-zero zero = refl
+build-zero (suc L) = ap suc (build-zero L)

@@ -1,1 +1,4 @@
 pub mod Builds
+pub mod Products
+pub mod Places
+pub mod Cases

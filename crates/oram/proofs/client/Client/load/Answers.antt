@@ -1,0 +1,32 @@
+use mathlib.Core.Path.{sym}
+use lib.Dec.{eqb, leb}
+use lib.ListN.{length}
+use Prim.Native.Nat.{_*_}
+use Rattle.std.proofs.shelf.Tests.{leb-true, eqb-true}
+use Rattle.shape.specs.Numbers.{blocks, level-slots}
+use Rattle.shape.specs.declared.refusal.Refusal.the-variants.{NotOpened, WrongTurn, WrongByteLength, TraceTooShort}
+use Rattle.shape.proofs.Cases.{passed}
+use Rattle.oram.specs.Opening.{stands}
+use Rattle.oram.proofs.Suits.{standing}
+use Rattle.oram.proofs.client.Client.load.Needs as need
+
+pub load-level-requires : need.load-level-requires
+load-level-requires g c κs =
+    let k = c .args .self .now .core in
+    let s = g .S·Store .state (c .args .self .now .store) in
+    let lists = g .I·Index .lists (c .args .self .now .index) in
+    let choice = g .P·Supply .choice (c .args .self .now .supply) in
+    let opened = passed (stands k s lists choice) NotOpened (c .in-Ok .ensures tt) in
+    let turn = passed (eqb (c .number .result) (k .number)) WrongTurn (opened .1) in
+    let bytes = passed (eqb (length (c .args .bytes .now)) (blocks (k .levels) * k .width)) WrongByteLength (turn .1) in
+    let room = passed (leb (level-slots (k .levels)) (length (c .args .trace .now))) TraceTooShort (bytes .1) in
+    let parts = standing k s lists choice (opened .0) in
+    record {
+      high = parts .high;
+      narrow = parts .narrow;
+      wide = parts .wide;
+      places = parts .places;
+      supply = parts .supply;
+      bytes = eqb-true _ _ (bytes .0);
+      room = leb-true _ _ (room .0);
+    }
