@@ -2,12 +2,14 @@
 use Prim.Native.Nat.{ℕ, _≤_}
 use mathlib.Core.Bool.{true, _&&_}
 use mathlib.Core.List.{List}
-use mathlib.Core.Path.{_≡_}
+use mathlib.Core.Path.{_≡_, ap}
 use lib.Dec.{eqb, leb}
 use lib.ListN.{length}
 use Rattle.std.proofs.shelf.Tests.{and-parts, leb-true, eqb-true}
 use Rattle.shape.specs.Numbers.{levels-fit, width-fits, places-needed}
 use Rattle.store.specs.State.{State}
+use Rattle.store.specs.Requests.{Request, ran}
+use Rattle.store.proofs.Requests.{wrote-length}
 use Rattle.supply.specs.Choice.{Choice}
 use Rattle.oram.specs.declared.client.Core.{Core}
 use Rattle.oram.specs.Fitting.{in-range, store-suits, made-for, suits}
@@ -45,3 +47,8 @@ suited L W s lists c e =
 
 pub standing : (k : Core) (s : State) (lists : List (List ℕ)) (c : Choice) → stands k s lists c ≡ true → Suited (k .levels) (k .width) s lists c
 standing k s lists c e = suited (k .levels) (k .width) s lists c (and-parts (unrefused (k .refusal)) (suits (k .levels) (k .width) s lists c) e .1)
+
+-- requests change neither the width nor the number of places
+pub stands-kept : (k : Core) (s : State) (rs : List Request) (lists : List (List ℕ)) (c : Choice) → stands k (ran s rs) lists c ≡ stands k s lists c
+stands-kept k s rs lists c =
+    ap (λ n. unrefused (k .refusal) && (in-range (k .levels) (k .width) && ((eqb (s .width) (k .width) && leb (places-needed (k .levels)) n) && made-for (k .levels) lists c))) (wrote-length (s .slots) rs)

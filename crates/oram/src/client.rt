@@ -69,7 +69,12 @@ impl<S: Store, I: Index, P: Supply> Client<S, I, P> {
     pub fn into_parts(self) -> (S, I, P)
         ensures { λ r. ⌜ (r .0 ≡ self .store) × (r .1 ≡ self .index) × (r .2 ≡ self .supply) ⌝ }
     {
-        let Client { store, index, supply, core: _ } = self;
+        let Client {
+            store,
+            index,
+            supply,
+            core: _,
+        } = self;
         (store, index, supply)
     }
 }

@@ -10,6 +10,7 @@ ghost use Rattle.std.specs.declared.result.Result.the-variants.{Ok, Err};
 ghost use Rattle.shape.specs.Numbers.{blocks, level-slots, places-needed};
 ghost use Rattle.store.specs.Requests.{ran, entries, entry-of};
 ghost use Rattle.oram.specs.Answers.{answer-of};
+ghost use Rattle.oram.specs.Opening.{stands};
 ghost use Rattle.oram.specs.Loading.{put-request, loaded-slot, load-request, load-requests, load-answer, loaded};
 use crate::answer::Declined;
 use crate::answer::Done;
@@ -34,7 +35,16 @@ fn zeros() -> [u8; 512]
 }
 
 // Puts the slot of one index: its block, or its dummy.
-fn put_index<S: Store>(store: &mut S, levels: u32, width: usize, bytes: &[u8], place: u32, index: u32, trace: &mut [Entry], at: usize)
+fn put_index<S: Store>(
+    store: &mut S,
+    levels: u32,
+    width: usize,
+    bytes: &[u8],
+    place: u32,
+    index: u32,
+    trace: &mut [Entry],
+    at: usize,
+)
     requires high { ⌜ levels ≤ 12 ⌝ }
     requires narrow { ⌜ width ≤ 512 ⌝ }
     requires wide { ⌜ state (now store) .width ≡ width ⌝ }
@@ -51,12 +61,27 @@ fn put_index<S: Store>(store: &mut S, levels: u32, width: usize, bytes: &[u8], p
         put_slot(store, place, index, &bytes[from..end], trace, at);
     } else {
         let payload = zeros();
-        put_slot(store, place, numbers::key_of_dummy(index), &payload[0..width], trace, at);
+        put_slot(
+            store,
+            place,
+            numbers::key_of_dummy(index),
+            &payload[0..width],
+            trace,
+            at,
+        );
     }
 }
 
 // Writes one slot of the highest level.
-fn load_slot<S: Store, P: Supply>(store: &mut S, supply: &mut P, levels: u32, width: usize, bytes: &[u8], trace: &mut [Entry], slot: u32)
+fn load_slot<S: Store, P: Supply>(
+    store: &mut S,
+    supply: &mut P,
+    levels: u32,
+    width: usize,
+    bytes: &[u8],
+    trace: &mut [Entry],
+    slot: u32,
+)
     requires high { ⌜ levels ≤ 12 ⌝ }
     requires narrow { ⌜ width ≤ 512 ⌝ }
     requires wide { ⌜ state (now store) .width ≡ width ⌝ }
@@ -74,11 +99,27 @@ fn load_slot<S: Store, P: Supply>(store: &mut S, supply: &mut P, levels: u32, wi
         Err(_) => unreachable(),
     };
     let place = numbers::start_of_level(levels) + slot;
-    put_index(store, levels, width, bytes, place, index, trace, slot as usize);
+    put_index(
+        store,
+        levels,
+        width,
+        bytes,
+        place,
+        index,
+        trace,
+        slot as usize,
+    );
 }
 
 // Writes all slots of the highest level, in rising order.
-fn load_level<S: Store, P: Supply>(store: &mut S, supply: &mut P, levels: u32, width: usize, bytes: &[u8], trace: &mut [Entry])
+fn load_level<S: Store, P: Supply>(
+    store: &mut S,
+    supply: &mut P,
+    levels: u32,
+    width: usize,
+    bytes: &[u8],
+    trace: &mut [Entry],
+)
     requires high { ⌜ levels ≤ 12 ⌝ }
     requires narrow { ⌜ width ≤ 512 ⌝ }
     requires wide { ⌜ state (now store) .width ≡ width ⌝ }
@@ -104,7 +145,15 @@ fn note_load(core: &mut Core)
 {
     let levels = core.levels;
     let blocks = numbers::block_count(levels);
-    core.table.put(levels, Record { occupied: true, size: blocks, counter: blocks, build: 0 });
+    core.table.put(
+        levels,
+        Record {
+            occupied: true,
+            size: blocks,
+            counter: blocks,
+            build: 0,
+        },
+    );
     core.number += 1;
 }
 
@@ -130,13 +179,19 @@ impl<S: Store, I: Index, P: Supply> Client<S, I, P> {
     }
 
     // Writes all slots of the highest level, a round each: block i where index i is below the number of blocks, else dummy i.
-    pub fn load(&mut self, turn: Unloaded, bytes: &[u8], trace: &mut [Entry]) -> Result<Done<Resting>, Declined<Unloaded>>
+    pub fn load(
+        &mut self,
+        turn: Unloaded,
+        bytes: &[u8],
+        trace: &mut [Entry],
+    ) -> Result<Done<Resting>, Declined<Unloaded>>
         ensures answer { λ r. ⌜ answer-of r ≡ load-answer (now (self .entry) .core) (state (now (self .entry) .store)) (lists (now (self .entry) .index)) (choice (now (self .entry) .supply)) (turn .number) (length (now (bytes .entry))) (length (now (trace .entry))) ⌝ }
         ensures turn { λ r. ⌜ elim r [ Ok d ↦ d .turn .number ≡ turn .number + 1 | Err e ↦ e .turn ≡ turn ] ⌝ }
         ensures core { λ r. ⌜ now (self .exit) .core ≡ cond (isOk r) (loaded (now (self .entry) .core)) (now (self .entry) .core) ⌝ }
         ensures store { λ r. ⌜ state (now (self .exit) .store) ≡ cond (isOk r) (ran (state (now (self .entry) .store)) (load-requests (now (self .entry) .core .levels) (now (self .entry) .core .width) (choice (now (self .entry) .supply)) (now (bytes .entry)))) (state (now (self .entry) .store)) ⌝ }
         ensures index { λ _. ⌜ now (self .exit) .index ≡ now (self .entry) .index ⌝ }
         ensures supply { λ _. ⌜ choice (now (self .exit) .supply) ≡ choice (now (self .entry) .supply) ⌝ }
+        ensures stands { λ _. ⌜ stands (now (self .exit) .core) (state (now (self .exit) .store)) (lists (now (self .exit) .index)) (choice (now (self .exit) .supply)) ≡ stands (now (self .entry) .core) (state (now (self .entry) .store)) (lists (now (self .entry) .index)) (choice (now (self .entry) .supply)) ⌝ }
         ensures trace { λ r. ⌜ now (trace .exit) ≡ cond (isOk r) (sets (now (trace .entry)) 0 (entries (load-requests (now (self .entry) .core .levels) (now (self .entry) .core .width) (choice (now (self .entry) .supply)) (now (bytes .entry))))) (now (trace .entry)) ⌝ }
     {
         let entries = match self.admit_load(turn.number(), bytes.len(), trace.len()) {
@@ -145,8 +200,18 @@ impl<S: Store, I: Index, P: Supply> Client<S, I, P> {
         };
         let levels = self.core.levels;
         let width = self.core.width;
-        load_level(&mut self.store, &mut self.supply, levels, width, bytes, trace);
+        load_level(
+            &mut self.store,
+            &mut self.supply,
+            levels,
+            width,
+            bytes,
+            trace,
+        );
         note_load(&mut self.core);
-        Ok(Done { turn: turn::after_load(turn), entries })
+        Ok(Done {
+            turn: turn::after_load(turn),
+            entries,
+        })
     }
 }

@@ -65,7 +65,13 @@ fn is_empty<I: Index>(index: &I) -> bool
 }
 
 // Why a client is opened with a refusal.
-fn refusal_at_opening<S: Store, I: Index, P: Supply>(levels: u32, width: usize, store: &S, index: &I, supply: &P) -> Option<Refusal>
+fn refusal_at_opening<S: Store, I: Index, P: Supply>(
+    levels: u32,
+    width: usize,
+    store: &S,
+    index: &I,
+    supply: &P,
+) -> Option<Refusal>
     ensures { λ r. ⌜ r ≡ opening-refusal levels width (state (now (store .entry))) (lists (now (index .entry))) (choice (now (supply .entry))) ⌝ }
 {
     if !is_in_range(levels, width) {
@@ -84,7 +90,13 @@ fn refusal_at_opening<S: Store, I: Index, P: Supply>(levels: u32, width: usize, 
 }
 
 // Whether the parts of a client serve it.
-pub(crate) fn suits_parts<S: Store, I: Index, P: Supply>(levels: u32, width: usize, store: &S, index: &I, supply: &P) -> bool
+pub(crate) fn suits_parts<S: Store, I: Index, P: Supply>(
+    levels: u32,
+    width: usize,
+    store: &S,
+    index: &I,
+    supply: &P,
+) -> bool
     ensures { λ r. ⌜ r ≡ suits levels width (state (now (store .entry))) (lists (now (index .entry))) (choice (now (supply .entry))) ⌝ }
 {
     if !is_in_range(levels, width) {
@@ -103,8 +115,24 @@ impl<S: Store, I: Index, P: Supply> Client<S, I, P> {
         ensures stands { λ r. ⌜ stands (r .client .core) (state (r .client .store)) (lists (r .client .index)) (choice (r .client .supply)) ≡ unrefused (r .refusal) ⌝ }
     {
         let refusal = refusal_at_opening(levels, width, &store, &index, &supply);
-        let core = Core { refusal, levels, width, number: 0, accesses: 0, table: record::vacant_table() };
-        Opening { client: Client { store, index, supply, core }, turn: turn::first_turn(), refusal }
+        let core = Core {
+            refusal,
+            levels,
+            width,
+            number: 0,
+            accesses: 0,
+            table: record::vacant_table(),
+        };
+        Opening {
+            client: Client {
+                store,
+                index,
+                supply,
+                core,
+            },
+            turn: turn::first_turn(),
+            refusal,
+        }
     }
 
     // Whether it was opened without a refusal. Its parts are asked again: width, places and levels never change.
@@ -113,7 +141,13 @@ impl<S: Store, I: Index, P: Supply> Client<S, I, P> {
     {
         match self.core.refusal {
             Some(_) => false,
-            None => suits_parts(self.core.levels, self.core.width, &self.store, &self.index, &self.supply),
+            None => suits_parts(
+                self.core.levels,
+                self.core.width,
+                &self.store,
+                &self.index,
+                &self.supply,
+            ),
         }
     }
 }

@@ -18,12 +18,19 @@ pub struct Table {
     pub(crate) records: [Record; 13],
 }
 
-const VACANT: Record = Record { occupied: false, size: 0, counter: 0, build: 0 };
+const VACANT: Record = Record {
+    occupied: false,
+    size: 0,
+    counter: 0,
+    build: 0,
+};
 
 pub(crate) fn vacant_table() -> Table
     ensures { λ r. ⌜ r ≡ vacant-table ⌝ }
 {
-    Table { records: [VACANT; 13] }
+    Table {
+        records: [VACANT; 13],
+    }
 }
 
 impl Table {

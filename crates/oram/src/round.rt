@@ -10,7 +10,14 @@ use store::entry::Entry;
 use store::store::Store;
 
 // Puts one slot, and notes the entry at this position of the trace.
-pub(crate) fn put_slot<S: Store>(store: &mut S, place: u32, key: u32, payload: &[u8], trace: &mut [Entry], at: usize)
+pub(crate) fn put_slot<S: Store>(
+    store: &mut S,
+    place: u32,
+    key: u32,
+    payload: &[u8],
+    trace: &mut [Entry],
+    at: usize,
+)
     requires inside { ⌜ place < length (state (now store) .slots) ⌝ }
     requires wide { ⌜ length (now payload) ≡ state (now store) .width ⌝ }
     requires room { ⌜ at < length (now trace) ⌝ }
@@ -21,5 +28,9 @@ pub(crate) fn put_slot<S: Store>(store: &mut S, place: u32, key: u32, payload: &
         Ok(()) => (),
         Err(_) => unreachable(),
     }
-    trace[at] = Entry { begins: true, write: true, place };
+    trace[at] = Entry {
+        begins: true,
+        write: true,
+        place,
+    };
 }

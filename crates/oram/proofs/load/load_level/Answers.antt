@@ -35,16 +35,16 @@ loop-slot-again g c =
     let p = g .P·Supply .choice (c .args .supply .now) in
     let f = load-request (c .args .levels) (c .args .width) p (c .args .bytes .now) in
     let n = c .loop-slot .slot in
-    let here = ap (λ q. load-request (c .args .levels) (c .args .width) q (c .args .bytes .now) n) (c .loop-slot .inv .1) in
-    ( c .load-slot .ensures .store
-      ∙ ap (λ t. ran t (load-request (c .args .levels) (c .args .width) (g .P·Supply .choice (c .loop-slot .supply)) (c .args .bytes .now) n ∷ [])) (c .loop-slot .inv .0)
-      ∙ ap (λ r. ran (ran s (map f (counting 0 n))) (r ∷ [])) here
-      ∙ ran-more s f n
-    , c .load-slot .ensures .supply ∙ c .loop-slot .inv .1
-    , c .load-slot .ensures .trace
-      ∙ ap (λ t. set t n (load-request (c .args .levels) (c .args .width) (g .P·Supply .choice (c .loop-slot .supply)) (c .args .bytes .now) n .entry)) (c .loop-slot .inv .2)
-      ∙ ap (λ r. set (sets (c .args .trace .now) 0 (entries (map f (counting 0 n)))) n (r .entry)) here
-      ∙ sets-more (c .args .trace .now) f n
+    let here = ap (λ q. load-request (c .args .levels) (c .args .width) q (c .args .bytes .now) n) (c .loop-slot .inv .1) in (
+      c .load-slot .ensures .store
+          ∙ ap (λ t. ran t (load-request (c .args .levels) (c .args .width) (g .P·Supply .choice (c .loop-slot .supply)) (c .args .bytes .now) n ∷ [])) (c .loop-slot .inv .0)
+          ∙ ap (λ r. ran (ran s (map f (counting 0 n))) (r ∷ [])) here
+          ∙ ran-more s f n,
+      c .load-slot .ensures .supply ∙ c .loop-slot .inv .1,
+      c .load-slot .ensures .trace
+          ∙ ap (λ t. set t n (load-request (c .args .levels) (c .args .width) (g .P·Supply .choice (c .loop-slot .supply)) (c .args .bytes .now) n .entry)) (c .loop-slot .inv .2)
+          ∙ ap (λ r. set (sets (c .args .trace .now) 0 (entries (map f (counting 0 n)))) n (r .entry)) here
+          ∙ sets-more (c .args .trace .now) f n,
     )
 
 pub returns : need.returns
