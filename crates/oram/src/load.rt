@@ -194,7 +194,7 @@ impl<S: Store, I: Index, P: Supply> Client<S, I, P> {
         ensures stands { λ _. ⌜ stands (now (self .exit) .core) (state (now (self .exit) .store)) (lists (now (self .exit) .index)) (choice (now (self .exit) .supply)) ≡ stands (now (self .entry) .core) (state (now (self .entry) .store)) (lists (now (self .entry) .index)) (choice (now (self .entry) .supply)) ⌝ }
         ensures trace { λ r. ⌜ now (trace .exit) ≡ cond (isOk r) (sets (now (trace .entry)) 0 (entries (load-requests (now (self .entry) .core .levels) (now (self .entry) .core .width) (choice (now (self .entry) .supply)) (now (bytes .entry))))) (now (trace .entry)) ⌝ }
     {
-        let entries = match self.admit_load(turn.number(), bytes.len(), trace.len()) {
+        let entries = match self.admit_load(turn.number, bytes.len(), trace.len()) {
             Ok(entries) => entries,
             Err(refusal) => return Err(Declined { turn, refusal }),
         };

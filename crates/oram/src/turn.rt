@@ -36,12 +36,6 @@ pub(crate) fn after_load(turn: Unloaded) -> Resting
 }
 
 impl Unloaded {
-    pub fn number(&self) -> u32
-        ensures { λ r. ⌜ r ≡ now (self .entry) .number ⌝ }
-    {
-        self.number
-    }
-
     // Ends the turn: nothing more is asked with it.
     pub fn end(self) -> u32
         ensures { λ r. ⌜ r ≡ self .number ⌝ }
@@ -52,12 +46,6 @@ impl Unloaded {
 }
 
 impl Resting {
-    pub fn number(&self) -> u32
-        ensures { λ r. ⌜ r ≡ now (self .entry) .number ⌝ }
-    {
-        self.number
-    }
-
     // Ends the turn: nothing more is asked with it.
     pub fn end(self) -> u32
         ensures { λ r. ⌜ r ≡ self .number ⌝ }
@@ -68,12 +56,6 @@ impl Resting {
 }
 
 impl Due {
-    pub fn number(&self) -> u32
-        ensures { λ r. ⌜ r ≡ now (self .entry) .number ⌝ }
-    {
-        self.number
-    }
-
     // Ends the turn: nothing more is asked with it.
     pub fn end(self) -> u32
         ensures { λ r. ⌜ r ≡ self .number ⌝ }

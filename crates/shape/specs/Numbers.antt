@@ -5,6 +5,10 @@ use lib.Count.{under}
 use lib.Dec.{leb, ltb}
 use Rattle.std.specs.declared.option.Option.{Option}
 use Rattle.std.specs.declared.option.Option.the-variants.{Some, None}
+use Rattle.std.specs.declared.result.Result.{Result}
+use Rattle.std.specs.declared.result.Result.the-variants.{Ok, Err}
+use Rattle.shape.specs.declared.refusal.Refusal.{Refusal}
+use Rattle.shape.specs.declared.refusal.Refusal.the-variants.{OutOfRange}
 
 -- L is 1 to 12
 abbrev pub levels-fit : ℕ → Bool
@@ -53,3 +57,7 @@ batch-and-seat N d = cond (ltb d N) (Some (d / batch-slots N, d % batch-slots N)
 -- the key of the dummy with index i
 abbrev pub dummy-key : ℕ → ℕ
 dummy-key i = 65536 + i
+
+-- the places that a store needs, for whoever asks
+abbrev pub places-answer : ℕ → Result ℕ Refusal
+places-answer L = cond (levels-fit L) (Ok (places-needed L)) (Err OutOfRange)

@@ -1,7 +1,8 @@
 // Inner: the numbers of the layout, for the other crates of this repository; some ask that a level is at most 12.
 ghost use mathlib.Core.Path.{_≡_};
 ghost use Prim.Native.Nat.{_<_, _≤_};
-ghost use Rattle.shape.specs.Numbers.{levels-fit, width-fits, blocks, level-slots, level-start, scratch-slots, scratch-start, places-needed, level-of-build, batch-and-seat, dummy-key};
+ghost use Rattle.shape.specs.Numbers.{levels-fit, width-fits, blocks, level-slots, level-start, scratch-slots, scratch-start, places-needed, level-of-build, batch-and-seat, dummy-key, places-answer};
+use crate::refusal::Refusal;
 
 pub fn fits_levels(levels: u32) -> bool
     ensures { λ r. ⌜ r ≡ levels-fit levels ⌝ }
@@ -40,7 +41,7 @@ pub fn slots_of_scratch(levels: u32) -> u32
     requires { ⌜ levels ≤ 12 ⌝ }
     ensures { λ r. ⌜ r ≡ scratch-slots levels ⌝ }
 {
-    1 << (levels + 1)
+    slots_of_level(levels)
 }
 
 pub fn start_of_scratch(levels: u32) -> u32
@@ -54,7 +55,7 @@ pub fn needed_places(levels: u32) -> u32
     requires { ⌜ levels ≤ 12 ⌝ }
     ensures { λ r. ⌜ r ≡ places-needed levels ⌝ }
 {
-    6 * (1 << levels) - 2
+    6 * block_count(levels) - 2
 }
 
 pub fn build_level(levels: u32, build: u32) -> u32
@@ -81,4 +82,14 @@ pub fn key_of_dummy(index: u32) -> u32
     ensures { λ r. ⌜ r ≡ dummy-key index ⌝ }
 {
     65536 + index
+}
+
+// The places that a store needs for a client of this highest level; refused where there is no such client.
+pub fn places_for(levels: u32) -> Result<u32, Refusal>
+    ensures { λ r. ⌜ r ≡ places-answer levels ⌝ }
+{
+    if !fits_levels(levels) {
+        return Err(Refusal::OutOfRange);
+    }
+    Ok(needed_places(levels))
 }

@@ -2,4 +2,5 @@
 pub mod admit;
 pub mod entry;
 pub mod meter;
+mod readings;
 pub mod store;

@@ -9,8 +9,8 @@ use crate::entry::Entry;
 
 #[derive(Drop)]
 pub struct Meter {
-    served: u64,
-    trail: u64,
+    pub(crate) served: u64,
+    pub(crate) trail: u64,
 }
 
 fn mark_of(e: Entry) -> u64
@@ -28,18 +28,6 @@ impl Meter {
             served: 0,
             trail: 0,
         }
-    }
-
-    pub fn served(&self) -> u64
-        ensures { λ r. ⌜ r ≡ now (self .entry) .served ⌝ }
-    {
-        self.served
-    }
-
-    pub fn trail(&self) -> u64
-        ensures { λ r. ⌜ r ≡ now (self .entry) .trail ⌝ }
-    {
-        self.trail
     }
 
     fn note(&mut self, e: Entry)

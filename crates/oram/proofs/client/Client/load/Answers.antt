@@ -7,7 +7,7 @@ use Rattle.shape.specs.Numbers.{blocks, level-slots}
 use Rattle.shape.specs.declared.refusal.Refusal.the-variants.{NotOpened, WrongTurn, WrongByteLength, TraceTooShort}
 use Rattle.shape.proofs.Cases.{passed}
 use Rattle.store.specs.Requests.{ran}
-use Rattle.oram.specs.Loading.{load-answer, load-requests}
+use Rattle.oram.specs.Loading.{load-requests}
 use Rattle.oram.specs.Opening.{stands}
 use Rattle.oram.proofs.Suits.{standing, stands-kept}
 use Rattle.oram.proofs.client.Client.load.Needs as need
@@ -19,7 +19,7 @@ load-level-requires g c κs =
     let lists = g .I·Index .lists (c .args .self .now .index) in
     let choice = g .P·Supply .choice (c .args .self .now .supply) in
     let opened = passed (stands k s lists choice) NotOpened (c .in-Ok .ensures tt) in
-    let turn = passed (eqb (c .number .result) (k .number)) WrongTurn (opened .1) in
+    let turn = passed (eqb (c .args .turn .number) (k .number)) WrongTurn (opened .1) in
     let bytes = passed (eqb (length (c .args .bytes .now)) (blocks (k .levels) * k .width)) WrongByteLength (turn .1) in
     let room = passed (leb (level-slots (k .levels)) (length (c .args .trace .now))) TraceTooShort (bytes .1) in
     let parts = standing k s lists choice (opened .0) in
@@ -43,7 +43,7 @@ returns g c =
     let later = g .P·Supply .choice (c .load-level .last .supply) in
     let rs = load-requests (k .levels) (k .width) choice (c .args .bytes .now) in
     record {
-      answer = c .in-Ok .ensures tt ∙ ap (λ t. load-answer k s lists choice t (length (c .args .bytes .now)) (length (c .args .trace .now))) (c .number .ensures);
+      answer = c .in-Ok .ensures tt;
       turn = c .after-load .ensures;
       core = c .note-load .ensures;
       store = c .load-level .ensures .store;
