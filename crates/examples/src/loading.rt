@@ -20,7 +20,11 @@ use store::store::Store;
 use supply::straight::Straight;
 use supply::straight::StraightSupply;
 
-const BLANK: Entry = Entry { begins: false, write: false, place: 0 };
+const BLANK: Entry = Entry {
+    begins: false,
+    write: false,
+    place: 0,
+};
 
 // What a load answered: the refusal's number or 0, the entries, and the number of the turn that it gave.
 fn told(answer: Result<Done<Resting>, Declined<Unloaded>>) -> (u32, u32, u32) {
@@ -37,13 +41,22 @@ fn told(answer: Result<Done<Resting>, Declined<Unloaded>>) -> (u32, u32, u32) {
 }
 
 // A load of so many bytes with room for so many entries, at a client opened for L = 2 over this many places, W = 1.
-fn loaded(heap: Global, places: usize, bytes: usize, room: usize) -> Result<((u32, u32, u32), u64), Fail> {
+fn loaded(
+    heap: Global,
+    places: usize,
+    bytes: usize,
+    room: usize,
+) -> Result<((u32, u32, u32), u64), Fail> {
     let store = memory(heap, places, 1)?;
     let index = BitmapIndex::new(heap, 2)?;
     let supply = Straight::new(2)?;
     let blocks = vec![in heap; 5u8; bytes]?;
     let mut trace = vec![in heap; BLANK; room]?;
-    let Opening { mut client, turn, refusal: _ } = Client::open(2, 1, store, index, supply);
+    let Opening {
+        mut client,
+        turn,
+        refusal: _,
+    } = Client::open(2, 1, store, index, supply);
     let answer = told(client.load(turn, &blocks, &mut trace));
     let (store, _, _) = client.into_parts();
     Ok((answer, store.served()))
@@ -79,18 +92,38 @@ fn make_parts(heap: Global) -> Result<Parts, Fail> {
     let store = memory(heap, 22, 1)?;
     let index = BitmapIndex::new(heap, 2)?;
     let supply = Straight::new(2)?;
-    Ok(Parts { store, index, supply })
+    Ok(Parts {
+        store,
+        index,
+        supply,
+    })
 }
 
 fn open(parts: Parts) -> Opening<MemoryStore, BitmapIndex, Straight> {
-    let Parts { store, index, supply } = parts;
+    let Parts {
+        store,
+        index,
+        supply,
+    } = parts;
     Client::open(2, 1, store, index, supply)
 }
 
 // Loads one client with the turn of another, and then again with its own.
-fn loaded_twice(one: Parts, other: Parts, trace: &mut [Entry]) -> ((u32, u32, u32), (u32, u32, u32), u32, Option<Record>) {
-    let Opening { mut client, turn, refusal: _ } = open(one);
-    let Opening { client: twin, turn: lent, refusal: _ } = open(other);
+fn loaded_twice(
+    one: Parts,
+    other: Parts,
+    trace: &mut [Entry],
+) -> ((u32, u32, u32), (u32, u32, u32), u32, Option<Record>) {
+    let Opening {
+        mut client,
+        turn,
+        refusal: _,
+    } = open(one);
+    let Opening {
+        client: twin,
+        turn: lent,
+        refusal: _,
+    } = open(other);
     let (_, _, _) = twin.into_parts();
     let first = told(client.load(lent, &[1, 2, 3, 4], trace));
     let second = told(client.load(turn, &[1, 2, 3, 4], trace));

@@ -18,16 +18,40 @@ use supply::straight::Straight;
 use supply::straight::StraightSupply;
 
 // The number of the refusal at opening, and the turn's number.
-fn opened(levels: u32, width: usize, store: MemoryStore, index: BitmapIndex, supply: Straight) -> (u32, u32) {
-    let Opening { client, turn, refusal } = Client::open(levels, width, store, index, supply);
+fn opened(
+    levels: u32,
+    width: usize,
+    store: MemoryStore,
+    index: BitmapIndex,
+    supply: Straight,
+) -> (u32, u32) {
+    let Opening {
+        client,
+        turn,
+        refusal,
+    } = Client::open(levels, width, store, index, supply);
     let (_, _, _) = client.into_parts();
     (number_of(refusal), turn.end())
 }
 
 // Opening with parts that fit, but for these numbers.
-fn with_parts(heap: Global, levels: u32, width: usize, places: usize, wide: usize, index: u32, supply: u32) -> Result<u32, Fail> {
+fn with_parts(
+    heap: Global,
+    levels: u32,
+    width: usize,
+    places: usize,
+    wide: usize,
+    index: u32,
+    supply: u32,
+) -> Result<u32, Fail> {
     let store = memory(heap, places, wide)?;
-    let (refusal, turn) = opened(levels, width, store, BitmapIndex::new(heap, index)?, Straight::new(supply)?);
+    let (refusal, turn) = opened(
+        levels,
+        width,
+        store,
+        BitmapIndex::new(heap, index)?,
+        Straight::new(supply)?,
+    );
     check_eq(turn, 0)?;
     Ok(refusal)
 }

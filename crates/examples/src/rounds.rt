@@ -18,7 +18,11 @@ fn fetched(store: &mut MemoryStore, places: usize, keys: usize, bytes: usize) ->
     if places > 14 || keys > 14 || bytes > 28 {
         return 99;
     }
-    number(store.fetch(&PLACES[0..places], &mut room[0..keys], &mut payloads[0..bytes]))
+    number(store.fetch(
+        &PLACES[0..places],
+        &mut room[0..keys],
+        &mut payloads[0..bytes],
+    ))
 }
 
 // The same of a put.
@@ -108,7 +112,11 @@ fn bytes_key_first_and_tail_left(rt: LibcRuntime) -> Result<(), Fail> {
 }
 
 // The places of two memory stores that are joined, and the width; 0 and 0 where memory fails.
-fn joined_places(first: MemoryStore, second: MemoryStore, heap: std::alloc::Global) -> (u32, usize) {
+fn joined_places(
+    first: MemoryStore,
+    second: MemoryStore,
+    heap: std::alloc::Global,
+) -> (u32, usize) {
     match JoinedStore::new(heap, first, second) {
         Ok(store) => {
             let places = store.places();
@@ -116,15 +124,82 @@ fn joined_places(first: MemoryStore, second: MemoryStore, heap: std::alloc::Glob
             let (_, _) = store.into_parts();
             (places, width)
         }
-        Err(Unjoined { first: _, second: _ }) => (0, 0),
+        Err(
+            Unjoined {
+                first: _,
+                second: _,
+            },
+        ) => (0, 0),
     }
 }
 
 #[test]
 fn two_parts_and_their_limits(rt: LibcRuntime) -> Result<(), Fail> {
     let heap = rt.alloc();
-    check_eq(joined_places(memory(heap, 3, 2)?, memory(heap, 4, 2)?, heap), (7, 2))?;
-    check_eq(joined_places(memory(heap, 3, 2)?, memory(heap, 4, 3)?, heap), (0, 0))?;
-    check_eq(joined_places(memory(heap, 500_000, 1)?, memory(heap, 500_000, 1)?, heap), (1_000_000, 1))?;
-    check_eq(joined_places(memory(heap, 500_000, 1)?, memory(heap, 500_001, 1)?, heap), (0, 0))
+    check_eq(
+        joined_places(memory(heap, 3, 2)?, memory(heap, 4, 2)?, heap),
+        (7, 2),
+    )?;
+    check_eq(
+        joined_places(memory(heap, 3, 2)?, memory(heap, 4, 3)?, heap),
+        (0, 0),
+    )?;
+    check_eq(
+        joined_places(memory(heap, 500_000, 1)?, memory(heap, 500_000, 1)?, heap),
+        (1_000_000, 1),
+    )?;
+    check_eq(
+        joined_places(memory(heap, 500_000, 1)?, memory(heap, 500_001, 1)?, heap),
+        (0, 0),
+    )
+}
+
+// Puts four slots to both parts in one round and fetches them in another: the keys fetched, and the counts of the whole, the first and
+// the second part.
+fn both_parts(
+    mut store: JoinedStore<MemoryStore, MemoryStore>,
+) -> ([u32; 4], [u8; 4], [u64; 3], [u64; 2]) {
+    let mut keys = [0u32; 4];
+    let mut bytes = [0u8; 4];
+    let _ = store.put(&[3, 0, 2, 1], &[30, 0, 20, 10], &[3, 0, 2, 1]);
+    let _ = store.fetch(&[1, 3, 2, 0], &mut keys, &mut bytes);
+    let whole = store.served();
+    let (first, second) = store.into_parts();
+    (
+        keys,
+        bytes,
+        [whole, first.served(), second.served()],
+        [first.trail(), second.trail()],
+    )
+}
+
+// The trail of two rounds of two places, by their four marks.
+fn trail(marks: [u64; 4]) -> u64 {
+    let mut trail = 0u64;
+    for mark in marks {
+        trail = trail.wrapping_mul(16_777_619).wrapping_add(mark);
+    }
+    trail
+}
+
+#[test]
+fn one_round_of_each_part(rt: LibcRuntime) -> Result<(), Fail> {
+    let heap = rt.alloc();
+    let first = memory(heap, 2, 1)?;
+    let second = memory(heap, 2, 1)?;
+    let (keys, bytes, served, trails) = match JoinedStore::new(heap, first, second) {
+        Ok(store) => both_parts(store),
+        Err(
+            Unjoined {
+                first: _,
+                second: _,
+            },
+        ) => return Err(Fail::new("no memory")),
+    };
+    check_eq(keys, [10, 30, 20, 0])?;
+    check_eq(bytes, [1, 3, 2, 0])?;
+    check_eq(served, [8, 4, 4])?;
+    // the first part is put 0, 1 and asked for 1, 0; the second is put 1, 0 and asked for 1, 0
+    check_eq(trails[0], trail([3, 5, 6, 0]))?;
+    check_eq(trails[1], trail([7, 1, 6, 0]))
 }

@@ -72,7 +72,12 @@ fn make_host(heap: Global, places: u32, width: usize) -> Result<Host, Fault> {
     let second = make_part(heap, places - places / 2, width)?;
     match JoinedStore::new(heap, first, second) {
         Ok(host) => Ok(host),
-        Err(Unjoined { first: _, second: _ }) => Err(Fault::NoMemory),
+        Err(
+            Unjoined {
+                first: _,
+                second: _,
+            },
+        ) => Err(Fault::NoMemory),
     }
 }
 
@@ -92,7 +97,11 @@ fn make_supply(levels: u32) -> Result<Straight, Fault> {
 }
 
 fn make_trace(heap: Global) -> Result<Vec<Entry>, Fault> {
-    let blank = Entry { begins: false, write: false, place: 0 };
+    let blank = Entry {
+        begins: false,
+        write: false,
+        place: 0,
+    };
     match vec![in heap; blank; MOST_ENTRIES] {
         Ok(trace) => Ok(trace),
         Err(_) => Err(Fault::NoMemory),
@@ -117,7 +126,10 @@ fn load_into(
             Ok(entries)
         }
         Err(back) => {
-            let Declined { turn, refusal: declined } = back;
+            let Declined {
+                turn,
+                refusal: declined,
+            } = back;
             turn.end();
             Err(refusal.unwrap_or(declined))
         }
@@ -158,14 +170,27 @@ fn read_job(rt: &LibcRuntime) -> Result<Job, Fault> {
     let Ok(mut words) = env::args(rt) else {
         return Err(Fault::NoMemory);
     };
-    let (Some(_), Some(levels), Some(width), Some(path), None) = (words.next(), words.next(), words.next(), words.next(), words.next()) else {
+    let (Some(_), Some(levels), Some(width), Some(path), None) = (
+        words.next(),
+        words.next(),
+        words.next(),
+        words.next(),
+        words.next(),
+    ) else {
         return Err(Fault::Usage);
     };
-    let (Ok(levels), Ok(width)) = (levels.as_str().parse::<u32>(), width.as_str().parse::<usize>()) else {
+    let (Ok(levels), Ok(width)) = (
+        levels.as_str().parse::<u32>(),
+        width.as_str().parse::<usize>(),
+    ) else {
         return Err(Fault::Usage);
     };
     match fs::read(rt, path.as_str()) {
-        Ok(bytes) => Ok(Job { levels, width, bytes }),
+        Ok(bytes) => Ok(Job {
+            levels,
+            width,
+            bytes,
+        }),
         Err(_) => Err(Fault::Unreadable),
     }
 }

@@ -1,5 +1,5 @@
 -- Bytes written over others.
-use Prim.Native.Nat.{ℕ, suc, _+_, _-_, _*_, _<_, _≤_}
+use Prim.Native.Nat.{ℕ, suc, _+_, _-_, _*_, _/_, _<_, _≤_}
 use mathlib.Core.List.{List, [], _∷_, _++_, append-assoc}
 use mathlib.Core.Path.{_≡_, refl, sym, ap, _∙_}
 use native.Mathlib.Omega.{arith}
@@ -13,11 +13,12 @@ use Rattle.store.proofs.Rounds.{inside-at}
 use borrow.Rule.Slice.PartMut.{putMid}
 use Rattle.std.proofs.shelf.Parts.{take-putMid, drop-putMid}
 use Rattle.std.proofs.shelf.Counted.{getD-map-counting}
-use native.Mathlib.Nat.{suc-mul}
+use native.Mathlib.Nat.{suc-mul, div-mul-le-self}
+use Rattle.std.proofs.shelf.Bits.{mul-le}
 use native.Mathlib.Numerals.{add-one}
 use Rattle.shape.proofs.Products.{part-fits}
 use Rattle.store.specs.State.{slot-at}
-use Rattle.memory_store.specs.Memory.{overwritten, decoded, slot-from, span, stored, key-bytes}
+use Rattle.memory_store.specs.Memory.{overwritten, decoded, slot-from, span, stored, key-bytes, whole-slots}
 
 -- one part after another is one write
 pub two-writes : (xs ys zs : List ℕ) (a b j k : ℕ) → length ys ≡ j → length zs ≡ k → a + j ≡ b → b + k ≤ length xs → putMid b k (putMid a j xs ys) zs ≡ overwritten xs a (ys ++ zs)
@@ -59,3 +60,10 @@ pub stored-more : (w : ℕ) (ps ks bs mem : List ℕ) (i at : ℕ) → i < lengt
 stored-more w ps ks bs mem i at h =
     let first : getD (drop i ks) 0 0 ≡ getD ks i 0 = getD-drop i ks 0 0 ∙ ap (λ n. getD ks n 0) (add-zero i) in
     rw (drop-more ps i 0 h, ← drop-drop 1 i ks, ← drop-drop w at bs, ← first) refl
+
+-- ---- as many slots as fit do fit
+
+pub whole-slots-fit : (w len : ℕ) → whole-slots w len * span w ≤ len
+whole-slots-fit w len =
+    let most = div-mul-le-self len (span w) in
+    omega (arith, mul-le (whole-slots w len) (span w) (len / span w) (span w) (omega arith) (omega arith))

@@ -9,6 +9,18 @@ ghost use Rattle.oram.specs.Loading.{put-request};
 use store::entry::Entry;
 use store::store::Store;
 
+// Notes the entry of a put.
+fn note_put(trace: &mut [Entry], at: usize, place: u32)
+    requires { ⌜ at < length (now trace) ⌝ }
+    ensures { λ _. ⌜ now (trace .exit) ≡ set (now (trace .entry)) at (entry-of true true place) ⌝ }
+{
+    trace[at] = Entry {
+        begins: true,
+        write: true,
+        place,
+    };
+}
+
 // Puts one slot, and notes the entry at this position of the trace.
 pub(crate) fn put_slot<S: Store>(
     store: &mut S,
@@ -28,9 +40,5 @@ pub(crate) fn put_slot<S: Store>(
         Ok(()) => (),
         Err(_) => unreachable(),
     }
-    trace[at] = Entry {
-        begins: true,
-        write: true,
-        place,
-    };
+    note_put(trace, at, place);
 }

@@ -1,5 +1,5 @@
 use mathlib.Core.List.{[], _∷_}
-use mathlib.Core.Path.{refl, ap, _∙_}
+use mathlib.Core.Path.{ap, _∙_}
 use native.Mathlib.Omega.{arith}
 use lib.Seq.{take-all}
 use Rattle.store.specs.Requests.{ran}
@@ -11,5 +11,5 @@ returns g c =
     let s = g .S·Store .state (c .args .store .now) in
     record {
       store = c .in-Ok .ensures tt .state ∙ ap (λ bs. ran s (put-request (c .args .place) (record { key = c .args .key; bytes = bs }) ∷ [])) (take-all (s .width) (c .args .payload .now) (omega arith));
-      trace = refl;
+      trace = c .note-put .ensures;
     }
