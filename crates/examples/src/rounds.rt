@@ -3,7 +3,7 @@ use crate::parts::memory;
 use crate::parts::number;
 use joined_store::JoinedStore;
 use joined_store::Unjoined;
-use joined_store::serve::JoinedStoreStore;
+use joined_store::serve::JoinedRounds;
 use memory_store::MemoryRounds;
 use memory_store::MemoryStore;
 use std::test::*;

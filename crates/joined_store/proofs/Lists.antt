@@ -16,7 +16,8 @@ use Rattle.std.proofs.shelf.Lists.{append-assoc, drop-more, drop-all, drop-drop
 use Rattle.std.proofs.shelf.Tests.{cases-bool, and-parts, and-from, ltb-true, ltb-false, lt-ltb, le-ltb, cond-true, cond-false}
 use Rattle.joined_store.specs.declared.part.Part.{Part}
 use Rattle.joined_store.specs.declared.part.Part.the-variants.{First, Second}
-use Rattle.joined_store.specs.Joined.{lies-in, numbered, places-in, items-in, merged}
+use Rattle.joined_store.specs.Joined.{lies-in, numbered, places-in, items-in}
+use Rattle.joined_store.specs.Inner.{merged}
 
 -- ---- picking the places of one part
 
@@ -152,6 +153,14 @@ seconds-span n w ps i h =
 
 abbrev pub brought : {X : Type 0} → ℕ → ℕ → ℕ → List X → List X
 brought w at mid xs = take at xs ++ (take w (drop mid xs) ++ (between at mid xs ++ drop (mid + w) xs))
+
+-- nothing is left of the first part's
+pub brought-none : {X : Type 0} (w at mid : ℕ) (xs : List X) → at ≡ mid → brought w at mid xs ≡ xs
+brought-none w at mid xs e =
+    let none : between at mid xs ≡ [] = ap (λ k. take k (drop at xs)) (let z : mid - at ≡ 0 = omega arith in z) in
+    ap (λ l. take at xs ++ (take w (drop mid xs) ++ (l ++ drop (mid + w) xs))) none
+    ∙ ap (λ l. take at xs ++ (take w (drop mid xs) ++ l)) (sym (drop-drop w mid xs)) ∙ ap (λ l. take at xs ++ l) (take-append-drop w (drop mid xs))
+    ∙ ap (λ k. take at xs ++ drop k xs) (sym e) ∙ take-append-drop at xs
 
 length-brought : {X : Type 0} (w at mid : ℕ) (xs : List X) → at ≤ mid → mid + w ≤ length xs → length (brought w at mid xs) ≡ length xs
 length-brought w at mid xs lo hi =

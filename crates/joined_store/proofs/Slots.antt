@@ -16,7 +16,8 @@ use Rattle.store.specs.Requests.{Request, entry-of, wrote}
 use Rattle.store.specs.Rounds.{inside, putting, keys-at, bytes-at}
 use Rattle.joined_store.specs.declared.part.Part.{Part}
 use Rattle.joined_store.specs.declared.part.Part.the-variants.{First, Second}
-use Rattle.joined_store.specs.Joined.{lies-in, numbered, places-in, items-in, merged}
+use Rattle.joined_store.specs.Joined.{lies-in, numbered, places-in, items-in}
+use Rattle.joined_store.specs.Inner.{merged}
 
 abbrev vacant : Slot
 vacant = record { key = 0; bytes = [] }

@@ -20,7 +20,8 @@ use Rattle.store.specs.Rounds.{inside, well-formed, verdict, answer, round, fet
 use Rattle.store.specs.Rule.{multiplied}
 use Rattle.store.proofs.Rounds.{fetching-entries, fetching-length, fetching-wrote, putting-entries, putting-length}
 use Rattle.joined_store.specs.declared.part.Part.the-variants.{First, Second}
-use Rattle.joined_store.specs.Joined.{fit, joins, joined-slots, joined-state, places-in, items-in, fetch-of, put-of, Suits, Shares}
+use Rattle.joined_store.specs.Joined.{fit, joins, common-width, joined-slots, joined-state, newly-joined, places-in, items-in, fetch-of, put-of}
+use Rattle.joined_store.specs.Inner.{Suits, Shares}
 use Rattle.joined_store.proofs.Lists.{places-few, places-sum}
 use Rattle.joined_store.proofs.Slots.{Even, slot-first, slot-second, inside-first, inside-second, wrote-length, wrote-both}
 
@@ -49,6 +50,27 @@ wide-joined w a b v t wa wb =
     (λ e. let f = joins-facts w a b e in subst goal (sym e) (even-both w (a .slots) (b .slots) (even-first w a (f .0) wa) (even-first w b (f .1) wb)))
     (λ e. subst goal (sym e) (λ p h. omega arith))
     (cases-bool (joins w a b))
+
+state-same : (rule : ℕ → ℕ → ℕ) (w w′ : ℕ) (s s′ : List Slot) (v v′ t t′ : ℕ) → w ≡ w′ → s ≡ s′ → v ≡ v′ → t ≡ t′ →
+    _≡_ {A = State} (record { width = w; slots = s; served = v; trail = t; rule = rule }) (record { width = w′; slots = s′; served = v′; trail = t′; rule = rule })
+state-same rule w w′ s s′ v v′ t t′ p q r u = cc
+
+-- stores that do not fit together at their own width do not at the width 0
+slots-anew : (a b : State) → joined-slots (common-width a b) a b ≡ joined-slots (a .width) a b
+slots-anew a b =
+    let slots = a .slots ++ b .slots in
+    ⊎-elim
+    (λ j. ap (λ w. joined-slots w a b) (cond-true (joins (a .width) a b) (a .width) 0 j))
+    (λ j. ap (λ w. joined-slots w a b) (cond-false (joins (a .width) a b) (a .width) 0 j)
+    ∙ ⊎-elim
+    (λ z. ap (λ w. joined-slots w a b) (sym (joins-facts 0 a b z .0)))
+    (λ z. cond-false (joins 0 a b) slots [] z ∙ sym (cond-false (joins (a .width) a b) slots [] j))
+    (cases-bool (joins 0 a b)))
+    (cases-bool (joins (a .width) a b))
+
+pub joined-anew : (w : ℕ) (a b : State) (v t : ℕ) → w ≡ common-width a b → v ≡ 0 → t ≡ 0 → joined-state w a b v t ≡ newly-joined a b
+joined-anew w a b v t ew ev et =
+    state-same multiplied w (common-width a b) (joined-slots w a b) (joined-slots (a .width) a b) v 0 t 0 ew (ap (λ x. joined-slots x a b) ew ∙ slots-anew a b) ev et
 
 -- ---- what an accepted round says
 
@@ -106,10 +128,6 @@ joined-accepts w a b v t ps k n e =
     (cases-bool (joins w a b))
 
 -- ---- the joined store after a round
-
-state-same : (rule : ℕ → ℕ → ℕ) (w w′ : ℕ) (s s′ : List Slot) (v v′ t t′ : ℕ) → w ≡ w′ → s ≡ s′ → v ≡ v′ → t ≡ t′ →
-    _≡_ {A = State} (record { width = w; slots = s; served = v; trail = t; rule = rule }) (record { width = w′; slots = s′; served = v′; trail = t′; rule = rule })
-state-same rule w w′ s s′ v v′ t t′ p q r u = cc
 
 -- the parts are as wide and as long as before; the slots, the count and the trail are those that the requests leave
 pub after-round : (w : ℕ) (a b a′ b′ : State) (v t v′ t′ : ℕ) (rs : List Request) →

@@ -1,15 +1,14 @@
 -- Two stores end to end: the places of the first, and then those of the second.
-use Prim.Native.Nat.{ℕ, _+_, _-_, _*_, _≤_}
-use mathlib.Core.Bool.{Bool, true, cond, not, _&&_}
+use Prim.Native.Nat.{ℕ, _+_, _-_}
+use mathlib.Core.Bool.{Bool, cond, not, _&&_}
 use mathlib.Core.List.{List, [], _∷_, _++_}
-use mathlib.Core.Path.{_≡_}
 use lib.Dec.{eqb, leb, ltb}
 use lib.ListN.{length, take, drop}
 use Rattle.joined_store.specs.declared.part.Part.{Part}
 use Rattle.joined_store.specs.declared.part.Part.the-variants.{First, Second}
 use Rattle.store.specs.State.{Slot, State}
 use Rattle.store.specs.Requests.{Request}
-use Rattle.store.specs.Rounds.{inside, fetch-round, put-round}
+use Rattle.store.specs.Rounds.{fetch-round, put-round}
 use Rattle.store.specs.Rule.{multiplied}
 
 -- two stores of these widths and with m and n places fit together at the width w: both have it, and at most 1,000,000 places between them
@@ -33,6 +32,16 @@ joined-state w a b served trail = record {
   slots = joined-slots w a b;
   served = served;
   trail = trail;
+  rule = multiplied;
+}
+
+-- two stores newly joined: of their width and with the places of both; where they do not fit together, of width 0 and with no places
+abbrev pub newly-joined : State → State → State
+newly-joined a b = record {
+  width = common-width a b;
+  slots = joined-slots (a .width) a b;
+  served = 0;
+  trail = 0;
   rule = multiplied;
 }
 
@@ -65,23 +74,3 @@ fetch-of part n s ps = fetch-round s (places-in part n ps)
 -- the requests that a put to the joined store makes of one part: the keys and payloads of its places
 abbrev pub put-of : Part → ℕ → State → List ℕ → List ℕ → List ℕ → List Request
 put-of part n s ps ks bs = put-round s (places-in part n ps) (items-in part n 1 ps ks) (items-in part n (s .width) ps bs)
-
--- the items of both parts, w to a place, in the order of the places
-abbrev pub merged : {X : Type 0} → ℕ → ℕ → List ℕ → List X → List X → List X
-merged n w [] xs ys = []
-merged n w (p ∷ ps) xs ys =
-    cond (ltb p n) (take w xs ++ merged n w ps (drop w xs) ys) (take w ys ++ merged n w ps xs (drop w ys))
-
--- places of a store, with as many keys and bytes as belong to them; unlike those of a round they may be none
-pub record Suits (s : State) (ps : List ℕ) (k b : ℕ) : Type 0 where
-  pub few : length ps ≤ 13
-  pub within : inside (length (s .slots)) ps ≡ true
-  pub keys : k ≡ length ps
-  pub bytes : b ≡ length ps * s .width
-
--- places of a joined store whose share of one part the part has, with as many keys and bytes as belong to all of them
-pub record Shares (s : State) (part : Part) (n : ℕ) (ps : List ℕ) (k b : ℕ) : Type 0 where
-  pub few : length ps ≤ 13
-  pub within : inside (length (s .slots)) (places-in part n ps) ≡ true
-  pub keys : k ≡ length ps
-  pub bytes : b ≡ length ps * s .width

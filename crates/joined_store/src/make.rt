@@ -1,11 +1,10 @@
 // Joining two stores, reading the joined store, and taking it apart.
-ghost use mathlib.Core.Bool.{cond};
 ghost use mathlib.Core.Path.{_≡_};
 ghost use Prim.Native.Nat.{_*_};
 ghost use Rattle.std.specs.Of.Vec.{vec-len};
 ghost use Rattle.std.specs.Options.{Cases as BySome};
 ghost use Rattle.std.specs.Results.{Cases};
-ghost use Rattle.joined_store.specs.Joined.{common-width, joined-state};
+ghost use Rattle.joined_store.specs.Joined.{common-width, newly-joined};
 ghost use Rattle.joined_store.specs.Whole.{state-of};
 use crate::JoinedStore;
 use crate::Unjoined;
@@ -44,7 +43,7 @@ impl<F: Store, S: Store> JoinedStore<F, S> {
     // Fails only for want of memory, and then gives both parts back.
     pub fn new(heap: Global, first: F, second: S) -> Result<JoinedStore<F, S>, Unjoined<F, S>>
         ensures parts { λ r. ⌜ Cases r (λ j. (j .first ≡ first) × (j .second ≡ second)) (λ u. (u .first ≡ first) × (u .second ≡ second)) ⌝ }
-        ensures state { λ r. ⌜ Cases r (λ j. state-of (F·Store .state) (S·Store .state) j ≡ joined-state (common-width (F·Store .state first) (S·Store .state second)) (F·Store .state first) (S·Store .state second) 0 0) (λ _. Unit {0}) ⌝ }
+        ensures state { λ r. ⌜ Cases r (λ j. state-of (F·Store .state) (S·Store .state) j ≡ newly-joined (F·Store .state first) (S·Store .state second)) (λ _. Unit {0}) ⌝ }
     {
         let width = common_width(&first, &second);
         let meter = Meter::new();

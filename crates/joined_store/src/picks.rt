@@ -1,12 +1,13 @@
 // Inner: what of a round belongs to which part. Plain slices; n is the number of the first part's places.
-ghost use mathlib.Core.Bool.{cond, true, _||_};
+ghost use mathlib.Core.Bool.{cond, true};
 ghost use mathlib.Core.List.{_++_};
 ghost use mathlib.Core.Path.{_≡_};
 ghost use Prim.Native.Nat.{_+_, _*_, _<_, _≤_};
 ghost use lib.Dec.{ltb};
 ghost use lib.ListN.{length, set, take, drop};
 ghost use Rattle.std.specs.Holes.{between};
-ghost use Rattle.joined_store.specs.Joined.{lies-in, numbered, places-in, items-in, merged};
+ghost use Rattle.joined_store.specs.Joined.{lies-in, numbered, places-in, items-in};
+ghost use Rattle.joined_store.specs.Inner.{merged};
 use crate::part::Part;
 
 fn lies_in(part: Part, n: u32, place: u32) -> bool
@@ -41,7 +42,7 @@ fn pick_next(part: Part, n: u32, place: u32, count: usize, own: &mut [u32]) -> u
 }
 
 // Writes the places of one part to the front, and counts them.
-pub fn pick(part: Part, n: u32, places: &[u32], own: &mut [u32]) -> usize
+pub(crate) fn pick(part: Part, n: u32, places: &[u32], own: &mut [u32]) -> usize
     requires { ⌜ length (now places) ≤ length (now own) ⌝ }
     ensures bound { λ r. ⌜ r ≤ length (now (places .entry)) ⌝ }
     ensures count { λ r. ⌜ r ≡ length (places-in part n (now (places .entry))) ⌝ }
@@ -84,7 +85,14 @@ fn gather_next<T: Copy>(
 }
 
 // Copies the items of one part's places.
-pub fn gather<T: Copy>(part: Part, n: u32, places: &[u32], width: usize, items: &[T], out: &mut [T])
+pub(crate) fn gather<T: Copy>(
+    part: Part,
+    n: u32,
+    places: &[u32],
+    width: usize,
+    items: &[T],
+    out: &mut [T],
+)
     requires items { ⌜ length (now items) ≡ length (now places) * width ⌝ }
     requires out { ⌜ length (now out) ≡ length (items-in part n width (now places) (now items)) ⌝ }
     ensures { λ _. ⌜ now (out .exit) ≡ items-in part n width (now (places .entry)) (now (items .entry)) ⌝ }
@@ -108,12 +116,15 @@ fn bring_next<T>(n: u32, place: u32, width: usize, at: usize, mid: usize, items:
         return mid;
     }
     let end = mid + width;
+    if at == mid {
+        return end;
+    }
     items[at..end].rotate_right(width);
     end
 }
 
 // Puts the items of both parts, the first part's in front, into the order of the places.
-pub fn merge<T>(n: u32, places: &[u32], width: usize, begin: usize, items: &mut [T])
+pub(crate) fn merge<T>(n: u32, places: &[u32], width: usize, begin: usize, items: &mut [T])
     requires begin { ⌜ begin ≡ length (places-in Part.First n (now places)) * width ⌝ }
     requires items { ⌜ length (now items) ≡ length (now places) * width ⌝ }
     ensures { λ _. ⌜ now (items .exit) ≡ merged n width (now (places .entry)) (take begin (now (items .entry))) (drop begin (now (items .entry))) ⌝ }

@@ -6,8 +6,9 @@ ghost use Prim.Native.Nat.{_+_, _-_, _*_, _≤_};
 ghost use lib.ListN.{length};
 ghost use Rattle.std.specs.declared.result.Result.the-variants.{Ok};
 ghost use Rattle.store.specs.Requests.{ran};
-ghost use Rattle.store.specs.Rounds.{inside, verdict, fetch-round, put-round, keys-at, bytes-at};
-ghost use Rattle.joined_store.specs.Joined.{joins, places-in, fetch-of, put-of, Suits, Shares};
+ghost use Rattle.store.specs.Rounds.{verdict, fetch-round, put-round, keys-at, bytes-at};
+ghost use Rattle.joined_store.specs.Joined.{joins, places-in, fetch-of, put-of};
+ghost use Rattle.joined_store.specs.Inner.{Suits, Shares};
 use crate::part::Part;
 use crate::picks::gather;
 use crate::picks::merge;
@@ -110,7 +111,7 @@ fn fetch_parts<F: Store, S: Store>(
 }
 
 // One round at most of each part: fills keys and bytes in the order of the places.
-pub fn fetch_both<F: Store, S: Store>(
+pub(crate) fn fetch_both<F: Store, S: Store>(
     width: usize,
     first: &mut F,
     second: &mut S,
@@ -193,7 +194,7 @@ fn put_part<S: Store>(
 }
 
 // One round at most of each part.
-pub fn put_both<F: Store, S: Store>(
+pub(crate) fn put_both<F: Store, S: Store>(
     width: usize,
     first: &mut F,
     second: &mut S,

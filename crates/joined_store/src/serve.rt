@@ -16,7 +16,7 @@ use shape::refusal::Refusal;
 use store::admit::admit;
 use store::store::Store;
 
-pub impl<F: Store, S: Store> Store for JoinedStore<F, S> as JoinedStoreStore {
+pub impl<F: Store, S: Store> Store for JoinedStore<F, S> as JoinedRounds {
     ghost state = { state-of (F·Store .state) (S·Store .state) };
 
     fn width(&self) -> usize {

@@ -4,13 +4,13 @@ ghost use lib.ListN.{length};
 ghost use Rattle.joined_store.specs.Joined.{fit, joined-slots};
 use store::store::Store;
 
-pub fn fit_at(width: usize, first_width: usize, second_width: usize, m: u32, n: u32) -> bool
+pub(crate) fn fit_at(width: usize, first_width: usize, second_width: usize, m: u32, n: u32) -> bool
     ensures { λ r. ⌜ r ≡ fit width «first_width» «second_width» m n ⌝ }
 {
     first_width == width && second_width == width && u64::from(m) + u64::from(n) <= 1_000_000
 }
 
-pub fn joined_places<F: Store, S: Store>(width: usize, first: &F, second: &S) -> u32
+pub(crate) fn joined_places<F: Store, S: Store>(width: usize, first: &F, second: &S) -> u32
     ensures { λ r. ⌜ r ≡ length (joined-slots width (F·Store .state (now (first .entry))) (S·Store .state (now (second .entry)))) ⌝ }
 {
     let m = first.places();

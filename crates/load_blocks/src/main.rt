@@ -4,7 +4,7 @@ use bitmap_index::BitmapIndex;
 use bitmap_index::BitmapLists;
 use joined_store::JoinedStore;
 use joined_store::Unjoined;
-use joined_store::serve::JoinedStoreStore;
+use joined_store::serve::JoinedRounds;
 use memory_store::MemoryRounds;
 use memory_store::MemoryStore;
 use oram::answer::Declined;
@@ -12,7 +12,7 @@ use oram::answer::Done;
 use oram::client::Client;
 use oram::open::Opening;
 use shape::make_error::MakeError;
-use shape::numbers;
+use shape::places;
 use shape::refusal::Refusal;
 use std::alloc::Global;
 use std::env;
@@ -140,7 +140,7 @@ fn load_into(
 
 // Opens a client over storage in two parts and loads the blocks.
 fn load(heap: Global, job: &Job) -> Result<Report, Fault> {
-    let places = match numbers::places_for(job.levels) {
+    let places = match places::places_for(job.levels) {
         Ok(places) => places,
         Err(refusal) => return Err(Fault::Refused(refusal)),
     };

@@ -36,7 +36,7 @@ fn write_slot(memory: &mut [u8], from: usize, key: u32, payload: &[u8])
 }
 
 // Reads the slots at these places, in their order.
-pub fn read_slots(
+pub(crate) fn read_slots(
     memory: &[u8],
     width: usize,
     count: u32,
@@ -62,7 +62,7 @@ pub fn read_slots(
 }
 
 // Writes slots to these places, in their order.
-pub fn write_slots(
+pub(crate) fn write_slots(
     memory: &mut [u8],
     width: usize,
     count: u32,

@@ -1,4 +1,4 @@
 pub mod Builds
 pub mod Products
-pub mod Places
+pub mod TopLevel
 pub mod Cases

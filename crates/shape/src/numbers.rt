@@ -1,8 +1,7 @@
 // Inner: the numbers of the layout, for the other crates of this repository; some ask that a level is at most 12.
 ghost use mathlib.Core.Path.{_≡_};
 ghost use Prim.Native.Nat.{_<_, _≤_};
-ghost use Rattle.shape.specs.Numbers.{levels-fit, width-fits, blocks, level-slots, level-start, scratch-slots, scratch-start, places-needed, level-of-build, batch-and-seat, dummy-key, places-answer};
-use crate::refusal::Refusal;
+ghost use Rattle.shape.specs.Numbers.{levels-fit, width-fits, blocks, level-slots, level-start, scratch-slots, scratch-start, places-needed, level-of-build, batch-and-seat, dummy-key};
 
 pub fn fits_levels(levels: u32) -> bool
     ensures { λ r. ⌜ r ≡ levels-fit levels ⌝ }
@@ -82,14 +81,4 @@ pub fn key_of_dummy(index: u32) -> u32
     ensures { λ r. ⌜ r ≡ dummy-key index ⌝ }
 {
     65536 + index
-}
-
-// The places that a store needs for a client of this highest level; refused where there is no such client.
-pub fn places_for(levels: u32) -> Result<u32, Refusal>
-    ensures { λ r. ⌜ r ≡ places-answer levels ⌝ }
-{
-    if !fits_levels(levels) {
-        return Err(Refusal::OutOfRange);
-    }
-    Ok(needed_places(levels))
 }

@@ -4,7 +4,8 @@ use mathlib.Core.Path.{_≡_}
 use lib.ListN.{length, take, drop}
 use Rattle.std.specs.Holes.{between}
 use Rattle.joined_store.specs.declared.part.Part.the-variants.{First, Second}
-use Rattle.joined_store.specs.Joined.{places-in, merged}
+use Rattle.joined_store.specs.Joined.{places-in}
+use Rattle.joined_store.specs.Inner.{merged}
 use Rattle.joined_store.proofs.picks.merge.Given as given
 
 abbrev pub Inv-loop-p : given.InvT-loop-p

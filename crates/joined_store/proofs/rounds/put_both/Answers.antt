@@ -5,7 +5,8 @@ use Rattle.store.specs.State.{State}
 use Rattle.store.specs.Requests.{ran}
 use Rattle.store.specs.Rounds.{put-round}
 use Rattle.joined_store.specs.declared.part.Part.the-variants.{First, Second}
-use Rattle.joined_store.specs.Joined.{places-in, items-in, Shares}
+use Rattle.joined_store.specs.Joined.{places-in, items-in}
+use Rattle.joined_store.specs.Inner.{Shares}
 use Rattle.joined_store.proofs.States.{joins-facts, accepted, shares-first, shares-second}
 use Rattle.joined_store.proofs.rounds.put_both.Needs as need
 

@@ -1,7 +1,7 @@
 use mathlib.Core.Path.{_≡_}
 use native.Mathlib.Omega.{arith}
 use Rattle.shape.proofs.Cases.{not-both, same-ok}
-use Rattle.shape.proofs.Places.{top-slot-inside}
+use Rattle.shape.proofs.TopLevel.{top-slot-inside}
 use Rattle.oram.proofs.Loads.{first-index}
 use Rattle.oram.proofs.load.load_slot.Needs as need
 

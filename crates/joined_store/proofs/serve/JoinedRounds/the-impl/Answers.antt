@@ -1,5 +1,5 @@
 use Rattle.joined_store.proofs.States.{wide-joined}
-use Rattle.joined_store.proofs.serve.JoinedStoreStore.the-impl.Needs as need
+use Rattle.joined_store.proofs.serve.JoinedRounds.the-impl.Needs as need
 
 pub wide-law : need.wide-law
 wide-law g s =
