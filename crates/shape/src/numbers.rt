@@ -57,12 +57,21 @@ pub fn needed_places(levels: u32) -> u32
     6 * block_count(levels) - 2
 }
 
+// The trailing zero bits of a number, but no more than `most`.
+fn zeros_up_to(most: u32, number: u32) -> u32
+    requires { ⌜ most ≤ 12 ⌝ }
+    ensures value { λ r. ⌜ r ≡ level-of-build most number ⌝ }
+    ensures bound { λ r. ⌜ r ≤ most ⌝ }
+{
+    most.min(number.trailing_zeros())
+}
+
 pub fn build_level(levels: u32, build: u32) -> u32
     requires { ⌜ levels ≤ 12 ⌝ }
     ensures value { λ r. ⌜ r ≡ level-of-build levels build ⌝ }
     ensures bound { λ r. ⌜ r ≤ levels ⌝ }
 {
-    levels.min(build.trailing_zeros())
+    zeros_up_to(levels, build)
 }
 
 // The batch of a destination and its seat there.
