@@ -1,5 +1,5 @@
 // The bitmap index: for each level a row of bits, one bit for each address.
-ghost use mathlib.Core.Bool.{true, false};
+ghost use mathlib.Core.Bool.{true, false, cond};
 ghost use mathlib.Core.List.{[], map};
 ghost use mathlib.Core.Path.{_≡_};
 ghost use Prim.Native.Nat.{ℕ, _*_, _^_, _<_, _≤_};
@@ -7,7 +7,8 @@ ghost use lib.ListN.{length, replicate};
 ghost use Rattle.std.specs.Of.Vec.{vec-items, vec-len};
 ghost use Rattle.std.specs.declared.result.Result.the-variants.{Ok, Err};
 ghost use Rattle.shape.specs.Numbers.{levels-fit};
-ghost use Rattle.index.specs.Lists.{list-at, takes};
+ghost use Rattle.std.specs.Results.{isOk};
+ghost use Rattle.index.specs.Lists.{list-at, takes, size-answer, member-answer, rank-answer, append-answer, appended, clear-answer, cleared};
 ghost use Rattle.shape.specs.declared.make_error.MakeError.the-variants.{Refused, NoMemory};
 ghost use Rattle.bitmap_index.specs.Bitmap.{lists-of, row, past-last};
 
@@ -50,6 +51,12 @@ impl BitmapIndex {
     pub fn new(heap: Global, levels: u32) -> Result<BitmapIndex, MakeError>
         ensures { λ r. ⌜ elim r [ Ok s ↦ (levels-fit levels ≡ true) × (lists-of (s .levels) (s .stride) (vec-items (s .words)) ≡ replicate levels []) | Err e ↦ elim e [ Refused f ↦ (levels-fit levels ≡ false) × (f ≡ Refusal.OutOfRange) | NoMemory ↦ levels-fit levels ≡ true ] ] ⌝ }
     {
+        BitmapIndex::reserve(heap, levels)
+    }
+
+    fn reserve(heap: Global, levels: u32) -> Result<BitmapIndex, MakeError>
+        ensures { λ r. ⌜ elim r [ Ok s ↦ (levels-fit levels ≡ true) × (lists-of (s .levels) (s .stride) (vec-items (s .words)) ≡ replicate levels []) | Err e ↦ elim e [ Refused f ↦ (levels-fit levels ≡ false) × (f ≡ Refusal.OutOfRange) | NoMemory ↦ levels-fit levels ≡ true ] ] ⌝ }
+    {
         if !numbers::fits_levels(levels) {
             return Err(MakeError::Refused(Refusal::OutOfRange));
         }
@@ -85,30 +92,34 @@ impl BitmapIndex {
         let at = level as usize;
         self.nexts[at] <= address && self.sizes[at] < 1 << level
     }
-}
 
-pub impl Index for BitmapIndex as BitmapLists {
-    ghost lists = { λ s. lists-of (s .levels) (s .stride) (vec-items (s .words)) };
-
-    fn levels(&self) -> u32 {
+    fn count_levels(&self) -> u32
+        ensures { λ r. ⌜ r ≡ length (lists-of (now (self .entry) .levels) (now (self .entry) .stride) (vec-items (now (self .entry) .words))) ⌝ }
+    {
         self.levels
     }
 
-    fn size(&self, level: u32) -> Option<u32> {
+    fn size_of(&self, level: u32) -> Option<u32>
+        ensures { λ r. ⌜ r ≡ size-answer (lists-of (now (self .entry) .levels) (now (self .entry) .stride) (vec-items (now (self .entry) .words))) level ⌝ }
+    {
         if level >= self.levels {
             return None;
         }
         Some(self.sizes[level as usize])
     }
 
-    fn member(&self, level: u32, position: u32) -> Option<u32> {
+    fn member_at(&self, level: u32, position: u32) -> Option<u32>
+        ensures { λ r. ⌜ r ≡ member-answer (lists-of (now (self .entry) .levels) (now (self .entry) .stride) (vec-items (now (self .entry) .words))) level position ⌝ }
+    {
         if level >= self.levels || position >= self.sizes[level as usize] {
             return None;
         }
         Some(words::address_at(self.row_of(level), position))
     }
 
-    fn rank(&self, level: u32, address: u32) -> Option<u32> {
+    fn rank_of(&self, level: u32, address: u32) -> Option<u32>
+        ensures { λ r. ⌜ r ≡ rank-answer (lists-of (now (self .entry) .levels) (now (self .entry) .stride) (vec-items (now (self .entry) .words))) level address ⌝ }
+    {
         if level >= self.levels || address >= numbers::block_count(self.levels) {
             return None;
         }
@@ -119,7 +130,10 @@ pub impl Index for BitmapIndex as BitmapLists {
         Some(words::count_below(row, address))
     }
 
-    fn append(&mut self, level: u32, address: u32) -> Result<(), Refusal> {
+    fn add(&mut self, level: u32, address: u32) -> Result<(), Refusal>
+        ensures answer { λ r. ⌜ r ≡ append-answer (lists-of (now (self .entry) .levels) (now (self .entry) .stride) (vec-items (now (self .entry) .words))) level address ⌝ }
+        ensures lists { λ r. ⌜ lists-of (now (self .exit) .levels) (now (self .exit) .stride) (vec-items (now (self .exit) .words)) ≡ cond (isOk r) (appended (lists-of (now (self .entry) .levels) (now (self .entry) .stride) (vec-items (now (self .entry) .words))) level address) (lists-of (now (self .entry) .levels) (now (self .entry) .stride) (vec-items (now (self .entry) .words))) ⌝ }
+    {
         if !self.can_take(level, address) {
             return Err(Refusal::WrongListChange);
         }
@@ -130,7 +144,10 @@ pub impl Index for BitmapIndex as BitmapLists {
         Ok(())
     }
 
-    fn clear(&mut self, level: u32) -> Result<(), Refusal> {
+    fn empty(&mut self, level: u32) -> Result<(), Refusal>
+        ensures answer { λ r. ⌜ r ≡ clear-answer (lists-of (now (self .entry) .levels) (now (self .entry) .stride) (vec-items (now (self .entry) .words))) level ⌝ }
+        ensures lists { λ r. ⌜ lists-of (now (self .exit) .levels) (now (self .exit) .stride) (vec-items (now (self .exit) .words)) ≡ cond (isOk r) (cleared (lists-of (now (self .entry) .levels) (now (self .entry) .stride) (vec-items (now (self .entry) .words))) level) (lists-of (now (self .entry) .levels) (now (self .entry) .stride) (vec-items (now (self .entry) .words))) ⌝ }
+    {
         if level >= self.levels {
             return Err(Refusal::WrongListChange);
         }
@@ -140,5 +157,33 @@ pub impl Index for BitmapIndex as BitmapLists {
         self.sizes[at] = 0;
         self.nexts[at] = 0;
         Ok(())
+    }
+}
+
+pub impl Index for BitmapIndex as BitmapLists {
+    ghost lists = { λ s. lists-of (s .levels) (s .stride) (vec-items (s .words)) };
+
+    fn levels(&self) -> u32 {
+        self.count_levels()
+    }
+
+    fn size(&self, level: u32) -> Option<u32> {
+        self.size_of(level)
+    }
+
+    fn member(&self, level: u32, position: u32) -> Option<u32> {
+        self.member_at(level, position)
+    }
+
+    fn rank(&self, level: u32, address: u32) -> Option<u32> {
+        self.rank_of(level, address)
+    }
+
+    fn append(&mut self, level: u32, address: u32) -> Result<(), Refusal> {
+        self.add(level, address)
+    }
+
+    fn clear(&mut self, level: u32) -> Result<(), Refusal> {
+        self.empty(level)
     }
 }

@@ -5,7 +5,7 @@ use lib.Dec.{leb}
 use lib.Pow.{pow-mono}
 use Rattle.std.proofs.shelf.Tests.{and-parts, leb-true}
 use Rattle.bitmap_index.proofs.Rows.{fresh, fresh-counted, fresh-ended, fresh-fits}
-use Rattle.bitmap_index.proofs.BitmapIndex.new.Needs as need
+use Rattle.bitmap_index.proofs.BitmapIndex.reserve.Needs as need
 
 pub ghost-result : need.ghost-result
 ghost-result c =

@@ -9,8 +9,8 @@ use Rattle.bitmap_index.specs.Bitmap.{members}
 use Rattle.bitmap_index.proofs.Counts.{members-grow, members-more}
 use Rattle.bitmap_index.proofs.Rows.{list-is}
 use Rattle.bitmap_index.proofs.Fields.{read-at, length-row, member-absent, member-present}
-use Rattle.bitmap_index.proofs.BitmapLists.member.Needs as need
-use Rattle.bitmap_index.proofs.BitmapLists.member.Needs.{then-level-self·by·then-level-self, then-level-self·by·else-level-self·then-position-index}
+use Rattle.bitmap_index.proofs.BitmapIndex.member_at.Needs as need
+use Rattle.bitmap_index.proofs.BitmapIndex.member_at.Needs.{then-level-self·by·then-level-self, then-level-self·by·else-level-self·then-position-index}
 
 pub returns-then-level-self : need.returns-then-level-self
 returns-then-level-self c =

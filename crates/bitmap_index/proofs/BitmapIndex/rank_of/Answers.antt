@@ -8,8 +8,8 @@ use lib.Pow.{pow-mono}
 use Rattle.std.specs.Of.Vec.{vec-items}
 use Rattle.bitmap_index.specs.Bitmap.{members, bit-of}
 use Rattle.bitmap_index.proofs.Fields.{length-row, rank-absent, rank-clear, rank-present}
-use Rattle.bitmap_index.proofs.BitmapLists.rank.Needs as need
-use Rattle.bitmap_index.proofs.BitmapLists.rank.Needs.{then-level-self·by·then-level-self, then-level-self·by·else-level-self·then-address-block-count}
+use Rattle.bitmap_index.proofs.BitmapIndex.rank_of.Needs as need
+use Rattle.bitmap_index.proofs.BitmapIndex.rank_of.Needs.{then-level-self·by·then-level-self, then-level-self·by·else-level-self·then-address-block-count}
 
 pub returns-then-level-self : need.returns-then-level-self
 returns-then-level-self c =

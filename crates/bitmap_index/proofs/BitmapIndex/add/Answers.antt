@@ -8,7 +8,7 @@ use Rattle.std.specs.Of.Vec.{vec-items}
 use Rattle.index.specs.Lists.{list-at}
 use Rattle.bitmap_index.specs.Bitmap.{lists-of, past-last, with-bit}
 use Rattle.bitmap_index.proofs.Fields.{taken, bit-inside, read-at, write-at, fits-after, append-lists, append-accepted, append-next, length-with-bit, room-small, address-small}
-use Rattle.bitmap_index.proofs.BitmapLists.append.Needs as need
+use Rattle.bitmap_index.proofs.BitmapIndex.add.Needs as need
 
 pub set-bit-requires : need.set-bit-requires
 set-bit-requires c κs =

@@ -9,7 +9,7 @@ use Rattle.index.specs.Lists.{cleared}
 use Rattle.bitmap_index.specs.Bitmap.{lists-of, past-last}
 use Rattle.bitmap_index.proofs.Rows.{lists-clear}
 use Rattle.bitmap_index.proofs.Fields.{row-inside, write-at, fits-after, clear-refused, clear-accepted}
-use Rattle.bitmap_index.proofs.BitmapLists.clear.Needs as need
+use Rattle.bitmap_index.proofs.BitmapIndex.empty.Needs as need
 
 pub returns-then-level-self : need.returns-then-level-self
 returns-then-level-self c =

@@ -1,7 +1,7 @@
 use lib.ListN.{length}
 use Rattle.std.specs.Of.Vec.{vec-items}
 use Rattle.bitmap_index.proofs.Fields.{read-at, size-absent, size-present}
-use Rattle.bitmap_index.proofs.BitmapLists.size.Needs as need
+use Rattle.bitmap_index.proofs.BitmapIndex.size_of.Needs as need
 
 pub returns-then-level-self : need.returns-then-level-self
 returns-then-level-self c =
