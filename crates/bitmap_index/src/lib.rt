@@ -1,4 +1,6 @@
 // The bitmap index: for each level a row of bits, one bit for each address.
+#![tactic(auto)]
+
 ghost use Rattle.std.specs.Prelude.{◌≡◌, ℕ, ◌*◌, ◌^◌, ◌<◌, ◌≤◌, true, false, [], map, length, replicate, is_ok, if◌then◌else◌, Ok, Err, vec_len};
 ghost use Rattle.shape.specs.Numbers.{levels_fit};
 ghost use Rattle.index.specs.Lists.{list_at, takes, size_answer, member_answer, rank_answer, append_answer, appended, clear_answer, cleared};

@@ -1,4 +1,6 @@
 // The block function of ChaCha20 (RFC 8439), and the guard that wipes its working words.
+#![tactic(auto)]
+
 pub mod block;
 mod examples;
 pub mod guard;

@@ -1,5 +1,7 @@
 // Prints a block of ChaCha20 as RFC 8439 does: sixteen words in hexadecimal, four to a line.
 // Arguments: the path of a file of 32 bytes, the counter, and the three words of the nonce, as decimal numbers.
+#![tactic(auto)]
+
 use anyhow::anyhow;
 use chacha20::block;
 use chacha20::key::Key;

@@ -1,4 +1,6 @@
 // Examples that run: the crates together, at the edges of the rules.
+#![tactic(auto)]
+
 #[cfg(test)]
 mod lists;
 #[cfg(test)]

@@ -1,4 +1,6 @@
 // The gap index: for each level the gaps of its rising list, one number each.
+#![tactic(auto)]
+
 ghost use Rattle.std.specs.Prelude.{◌≡◌, ℕ, ◌-◌, ◌^◌, ◌<◌, ◌≤◌, true, false, [], length, replicate, is_ok, if◌then◌else◌, Ok, Err, vec_len, sum, slice_index};
 ghost use Rattle.shape.specs.Numbers.{levels_fit};
 ghost use Rattle.index.specs.Lists.{list_at, takes, size_answer, member_answer, rank_answer, append_answer, appended, clear_answer, cleared};

@@ -1,4 +1,6 @@
 // Which blocks lie in which level, and at which rank: the interface of every index.
+#![tactic(auto)]
+
 ghost use Rattle.std.specs.Prelude.{◌≡◌, ℕ, List, length, is_ok, if◌then◌else◌};
 ghost use Rattle.index.specs.Lists.{Lawful, size_answer, member_answer, rank_answer, append_answer, appended, clear_answer, cleared};
 

@@ -1,6 +1,8 @@
 // Asks an index a round of questions again and again, so that bench/index_costs can count the instructions of a question.
 // Arguments: the kind of index, L, what is asked, and the number of rounds. Prints a checksum of the answers.
 // The list of level L - 1 is filled with every second address, and a round asks one question for each of its members.
+#![tactic(auto)]
+
 ghost use Rattle.std.specs.Prelude.{◌<◌, ◌≤◌};
 
 use anyhow::anyhow;

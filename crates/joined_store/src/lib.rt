@@ -1,4 +1,6 @@
 // Two stores of any kind, end to end.
+#![tactic(auto)]
+
 ghost use Rattle.std.specs.Prelude.{◌≡◌, ◌*◌, vec_len};
 
 use store::meter::Meter;

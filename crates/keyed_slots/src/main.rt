@@ -1,5 +1,7 @@
 // Prints the slots that a key gives to indexes of a build, and the indexes of these slots again.
 // Arguments: the path of a file of 32 bytes, L, the build, and one index or more.
+#![tactic(auto)]
+
 use anyhow::anyhow;
 use keyed_supply::keyed::KeyedSupply;
 use shape::refusal::Refusal;

@@ -1,5 +1,7 @@
 // Loads a file of blocks onto storage in two parts, and prints what the host was asked.
 // Arguments: L, W, and the path of a file of 2^L * W bytes.
+#![tactic(auto)]
+
 use anyhow::anyhow;
 use bitmap_index::BitmapIndex;
 use joined_store::{JoinedStore, Unjoined};

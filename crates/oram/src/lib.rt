@@ -1,4 +1,6 @@
 // The client: it keeps blocks on a store that belongs to somebody else.
+#![tactic(auto)]
+
 pub mod answer;
 pub mod client;
 pub mod load;

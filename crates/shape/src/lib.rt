@@ -1,4 +1,6 @@
 // The shape of the store and the refusals: numbers only, no state.
+#![tactic(auto)]
+
 pub mod make_error;
 pub mod numbers;
 pub mod places;

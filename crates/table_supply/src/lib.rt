@@ -1,4 +1,6 @@
 // A supply of permutations given as a table: for each build the slots of its indices, in order.
+#![tactic(auto)]
+
 ghost use Rattle.std.specs.Prelude.{◌≡◌, ◌≤◌, true, length, vec_len, MatchResult};
 ghost use Rattle.std.proofs.Common.{sym, ap, ◌∙◌};
 ghost use Rattle.shape.specs.Numbers.{levels_fit};

@@ -1,4 +1,6 @@
 // Examples of the definitions, proved: the worked ones as one table, and runs of the independent program.
+#![tactic(auto)]
+
 ghost use Rattle.worked_examples.specs.Generated.{AllAgree};
 ghost use Rattle.worked_examples.specs.Worked.{WorkedExamples};
 
