@@ -9,7 +9,7 @@ use Rattle.supply.specs.Choice.{Choice, Lawful, build_slots, within, slot_answer
 pub within_true : (c : Choice) (b x : ℕ) → b < c.builds → x < build_slots c b → within c b x ≡ true
 within_true c b x h l = and_from _ _ (lt-ltb b c.builds h) (lt-ltb x (build_slots c b) l)
 
-pub index_answered : (c : Choice) (b s : ℕ) → b < c.builds → s < build_slots c b → index_answer c b s ≡ Ok (c.index-of b s)
+pub index_answered : (c : Choice) (b s : ℕ) → b < c.builds → s < build_slots c b → index_answer c b s ≡ Ok (c.index_of b s)
 index_answered c b s h l = cond-true _ _ _ (within_true c b s h l)
 
 -- build 0 has the size of the highest level

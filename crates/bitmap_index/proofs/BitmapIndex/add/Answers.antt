@@ -5,41 +5,41 @@ use Rattle.bitmap_index.specs.Bitmap.{lists_of, past_last, with_bit}
 use Rattle.bitmap_index.proofs.Fields.{taken, bit_inside, read_at, write_at, fits_after, append_lists, append_accepted, append_next, length_with_bit, room_small, address_small}
 use Rattle.bitmap_index.proofs.BitmapIndex.add.Goals as goal
 
-pub set-bit-requires : goal.set-bit-requires
-set-bit-requires c =
+pub set_bit-requires : goal.set_bit-requires
+set_bit-requires c =
     let s = c.args.self.now in
-    let t = taken s.levels s.stride (vec_items s.words) c.args.level c.args.address (sym c.can-take.ensures ∙ c.if-not-can-take.false) in
-    bit_inside s.levels s.stride c.args.level c.args.address _ (c.deref-mut.ensures.len ∙ s.rows) s.wide t.level t.address
+    let t = taken s.levels s.stride (vec_items s.words) c.args.level c.args.address (sym c.can_take.ensures ∙ c.if-not-can_take.false) in
+    bit_inside s.levels s.stride c.args.level c.args.address _ (c.deref_mut.ensures.len ∙ s.rows) s.wide t.level t.address
 
-pub index-mut-requires : goal.index-mut-requires
-index-mut-requires c =
+pub index_mut-requires : goal.index_mut-requires
+index_mut-requires c =
     let s = c.args.self.now in
-    let t = taken s.levels s.stride (vec_items s.words) c.args.level c.args.address (sym c.can-take.ensures ∙ c.if-not-can-take.false) in
+    let t = taken s.levels s.stride (vec_items s.words) c.args.level c.args.address (sym c.can_take.ensures ∙ c.if-not-can_take.false) in
     omega (arith, t.level, s.sized)
 
-pub overflow-add-self : goal.overflow-add-self
-overflow-add-self c =
+pub overflow_add-self : goal.overflow_add-self
+overflow_add-self c =
     let s = c.args.self.now in
     let ws = vec_items s.words in
-    let t = taken s.levels s.stride ws c.args.level c.args.address (sym c.can-take.ensures ∙ c.if-not-can-take.false) in
-    let size = read_at length s.levels s.stride ws (vec_items s.sizes) c.args.level _ s.counted t.level c.index-mut.ensures.value in
+    let t = taken s.levels s.stride ws c.args.level c.args.address (sym c.can_take.ensures ∙ c.if-not-can_take.false) in
+    let size = read_at length s.levels s.stride ws (vec_items s.sizes) c.args.level _ s.counted t.level c.index_mut.ensures.value in
     omega (arith, size, room_small s.levels s.stride ws c.args.level c.args.address s.high t)
 
-pub overflow-add-self-2 : goal.overflow-add-self-2
-overflow-add-self-2 c =
+pub overflow_add-self-2 : goal.overflow_add-self-2
+overflow_add-self-2 c =
     let s = c.args.self.now in
     let ws = vec_items s.words in
-    let t = taken s.levels s.stride ws c.args.level c.args.address (sym c.can-take.ensures ∙ c.if-not-can-take.false) in
+    let t = taken s.levels s.stride ws c.args.level c.args.address (sym c.can_take.ensures ∙ c.if-not-can_take.false) in
     omega (arith, address_small s.levels s.stride ws c.args.level c.args.address s.high t)
 
-pub index-mut-requires-2 : goal.index-mut-requires-2
-index-mut-requires-2 c =
+pub index_mut-requires-2 : goal.index_mut-requires-2
+index_mut-requires-2 c =
     let s = c.args.self.now in
-    let t = taken s.levels s.stride (vec_items s.words) c.args.level c.args.address (sym c.can-take.ensures ∙ c.if-not-can-take.false) in
+    let t = taken s.levels s.stride (vec_items s.words) c.args.level c.args.address (sym c.can_take.ensures ∙ c.if-not-can_take.false) in
     omega (arith, t.level, s.noted)
 
-pub invariant-of-self : goal.invariant-of-self
-invariant-of-self c =
+pub invariant_of-self : goal.invariant_of-self
+invariant_of-self c =
     let s = c.args.self.now in
     let L = s.levels in
     let st = s.stride in
@@ -47,12 +47,12 @@ invariant-of-self c =
     let l = c.args.level in
     let a = c.args.address in
     let xs = list_at (lists_of L st ws) l in
-    let t = taken L st ws l a (sym c.can-take.ensures ∙ c.if-not-can-take.false) in
-    let set' : c.set-bit.new.words ≡ with_bit ws (l * st) a = c.set-bit.ensures ∙ ap (λ (ys : List ℕ). with_bit ys (l * st) a) c.deref-mut.ensures.value in
-    let n : length c.set-bit.new.words ≡ s.words.len = ap length set' ∙ length_with_bit ws (l * st) a ∙ sym s.words.ok.0 in
-    let new = append_lists L st ws _ l a (sym s.words.ok.0 ∙ s.rows) s.wide t (with_items_is s.words c.set-bit.new.words n ∙ set') in
-    let size = read_at length L st ws (vec_items s.sizes) l _ s.counted t.level c.index-mut.ensures.value in
-    let more : c.index-mut.result.now + 1 ≡ length (xs ++ a ∷ []) = ap (λ (m : ℕ). m + 1) size ∙ sym (length_push xs a) in (
+    let t = taken L st ws l a (sym c.can_take.ensures ∙ c.if-not-can_take.false) in
+    let set' : c.set_bit.new.words ≡ with_bit ws (l * st) a = c.set_bit.ensures ∙ ap (λ (ys : List ℕ). with_bit ys (l * st) a) c.deref_mut.ensures.value in
+    let n : length c.set_bit.new.words ≡ s.words.len = ap length set' ∙ length_with_bit ws (l * st) a ∙ sym s.words.ok.0 in
+    let new = append_lists L st ws _ l a (sym s.words.ok.0 ∙ s.rows) s.wide t (with_items_is s.words c.set_bit.new.words n ∙ set') in
+    let size = read_at length L st ws (vec_items s.sizes) l _ s.counted t.level c.index_mut.ensures.value in
+    let more : c.index_mut.result.now + 1 ≡ length (xs ++ a ∷ []) = ap (λ (m : ℕ). m + 1) size ∙ sym (length_push xs a) in (
       s.low,
       (
         s.high,
@@ -89,11 +89,11 @@ returns c =
     let ws = vec_items s.words in
     let l = c.args.level in
     let a = c.args.address in
-    let yes' = sym c.can-take.ensures ∙ c.if-not-can-take.false in
+    let yes' = sym c.can_take.ensures ∙ c.if-not-can_take.false in
     let t = taken L st ws l a yes' in
-    let set' : c.set-bit.new.words ≡ with_bit ws (l * st) a = c.set-bit.ensures ∙ ap (λ (ys : List ℕ). with_bit ys (l * st) a) c.deref-mut.ensures.value in
-    let n : length c.set-bit.new.words ≡ s.words.len = ap length set' ∙ length_with_bit ws (l * st) a ∙ sym s.words.ok.0 in
+    let set' : c.set_bit.new.words ≡ with_bit ws (l * st) a = c.set_bit.ensures ∙ ap (λ (ys : List ℕ). with_bit ys (l * st) a) c.deref_mut.ensures.value in
+    let n : length c.set_bit.new.words ≡ s.words.len = ap length set' ∙ length_with_bit ws (l * st) a ∙ sym s.words.ok.0 in
     record {
       answer = append_accepted (lists_of L st ws) l a yes';
-      lists = append_lists L st ws _ l a (sym s.words.ok.0 ∙ s.rows) s.wide t (with_items_is s.words c.set-bit.new.words n ∙ set');
+      lists = append_lists L st ws _ l a (sym s.words.ok.0 ∙ s.rows) s.wide t (with_items_is s.words c.set_bit.new.words n ∙ set');
     }

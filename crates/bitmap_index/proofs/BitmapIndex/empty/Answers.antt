@@ -11,22 +11,22 @@ returns-then-level-self c =
     let s = c.args.self.now in
     record { answer = clear_refused s.levels s.stride (vec_items s.words) c.args.level c.if-level-self.true; lists = refl }
 
-pub clear-words-requires : goal.clear-words-requires
-clear-words-requires c =
+pub clear_words-requires : goal.clear_words-requires
+clear_words-requires c =
     let s = c.args.self.now in
-    (omega arith, omega (arith, row_inside s.levels s.stride c.args.level c.if-level-self.false, c.deref-mut.ensures.len, s.rows))
+    (omega arith, omega (arith, row_inside s.levels s.stride c.args.level c.if-level-self.false, c.deref_mut.ensures.len, s.rows))
 
-pub invariant-of-self : goal.invariant-of-self
-invariant-of-self c =
+pub invariant_of-self : goal.invariant_of-self
+invariant_of-self c =
     let s = c.args.self.now in
     let L = s.levels in
     let st = s.stride in
     let ws = vec_items s.words in
     let l = c.args.level in
     let h = c.if-level-self.false in
-    let vs = c.clear-words.new.words in
-    let n : length vs ≡ s.words.len = c.clear-words.auto.words ∙ c.deref-mut.ensures.len in
-    let new = ap (lists_of L st) (with_items_is s.words vs n) ∙ lists_clear L st ws vs l s.wide h c.clear-words.ensures.cleared (λ i o. c.clear-words.ensures.others i o ∙ ap (λ (ys : List ℕ). get_or ys i 0) c.deref-mut.ensures.value) in (
+    let vs = c.clear_words.new.words in
+    let n : length vs ≡ s.words.len = c.clear_words.auto.words ∙ c.deref_mut.ensures.len in
+    let new = ap (lists_of L st) (with_items_is s.words vs n) ∙ lists_clear L st ws vs l s.wide h c.clear_words.ensures.cleared (λ i o. c.clear_words.ensures.others i o ∙ ap (λ (ys : List ℕ). get_or ys i 0) c.deref_mut.ensures.value) in (
       s.low,
       (
         s.high,
@@ -63,9 +63,9 @@ returns c =
     let ws = vec_items s.words in
     let l = c.args.level in
     let h = c.if-level-self.false in
-    let vs = c.clear-words.new.words in
-    let n : length vs ≡ s.words.len = c.clear-words.auto.words ∙ c.deref-mut.ensures.len in
+    let vs = c.clear_words.new.words in
+    let n : length vs ≡ s.words.len = c.clear_words.auto.words ∙ c.deref_mut.ensures.len in
     record {
       answer = clear_accepted L st ws l h;
-      lists = ap (lists_of L st) (with_items_is s.words vs n) ∙ lists_clear L st ws vs l s.wide h c.clear-words.ensures.cleared (λ i o. c.clear-words.ensures.others i o ∙ ap (λ (ys : List ℕ). get_or ys i 0) c.deref-mut.ensures.value);
+      lists = ap (lists_of L st) (with_items_is s.words vs n) ∙ lists_clear L st ws vs l s.wide h c.clear_words.ensures.cleared (λ i o. c.clear_words.ensures.others i o ∙ ap (λ (ys : List ℕ). get_or ys i 0) c.deref_mut.ensures.value);
     }

@@ -16,18 +16,18 @@ returns-then-level-self c =
       | then-level-self-via-else-level-self+then-position-index w ↦ inr (omega (arith, read_at length s.levels s.stride ws (vec_items s.sizes) c.args.level _ s.counted w.if-level-self.false w.index.ensures, w.if-position-index.true))
     ])
 
-pub address-at-requires : goal.address-at-requires
-address-at-requires c =
+pub address_at-requires : goal.address_at-requires
+address_at-requires c =
     let s = c.args.self.now in
     let ws = vec_items s.words in
     let l = c.args.level in
     let h = c.if-level-self.false in
     let size = read_at length s.levels s.stride ws (vec_items s.sizes) l _ s.counted h c.index.ensures in
-    let r = c.row-of.ensures in
+    let r = c.row_of.ensures in
     let n = ap length r ∙ length_row s.levels s.stride ws l (sym s.words.ok.0 ∙ s.rows) h in
-    let wide : 2 ^ s.levels ≤ 64 * length c.row-of.result.now = omega (arith, n, s.wide) in
+    let wide : 2 ^ s.levels ≤ 64 * length c.row_of.result.now = omega (arith, n, s.wide) in
     let same = ap length (list_is s.levels s.stride ws l h ∙ ap (members (2 ^ s.levels)) (sym r)) in
-    (omega (arith, size, same, c.if-position-index.false, members_grow (2 ^ s.levels) (64 * length c.row-of.result.now) c.row-of.result.now wide), omega (arith, n, s.narrow))
+    (omega (arith, size, same, c.if-position-index.false, members_grow (2 ^ s.levels) (64 * length c.row_of.result.now) c.row_of.result.now wide), omega (arith, n, s.narrow))
 
 pub returns : goal.returns
 returns c =
@@ -37,11 +37,11 @@ returns c =
     let p = c.args.position in
     let h = c.if-level-self.false in
     let size = read_at length s.levels s.stride ws (vec_items s.sizes) l _ s.counted h c.index.ensures in
-    let r = c.row-of.ensures in
+    let r = c.row_of.ensures in
     let n = ap length r ∙ length_row s.levels s.stride ws l (sym s.words.ok.0 ∙ s.rows) h in
-    let wide : 2 ^ s.levels ≤ 64 * length c.row-of.result.now = omega (arith, n, s.wide) in
+    let wide : 2 ^ s.levels ≤ 64 * length c.row_of.result.now = omega (arith, n, s.wide) in
     let same = ap length (list_is s.levels s.stride ws l h ∙ ap (members (2 ^ s.levels)) (sym r)) in
-    let inside : p < length (members (2 ^ s.levels) c.row-of.result.now) = omega (arith, size, same, c.if-position-index.false) in
+    let inside : p < length (members (2 ^ s.levels) c.row_of.result.now) = omega (arith, size, same, c.if-position-index.false) in
     member_present s.levels s.stride ws l p _ h (omega (arith, size, c.if-position-index.false))
-    (c.address-at.ensures ∙ members_more (2 ^ s.levels) (64 * length c.row-of.result.now) c.row-of.result.now wide p inside
+    (c.address_at.ensures ∙ members_more (2 ^ s.levels) (64 * length c.row_of.result.now) c.row_of.result.now wide p inside
     ∙ ap (λ (xs : List ℕ). get_or (members (2 ^ s.levels) xs) p 0) r)

@@ -4,8 +4,8 @@ use Rattle.bitmap_index.specs.Bitmap.{places_of}
 use Rattle.bitmap_index.specs.Bits.{places_positive, places_next, places_first}
 use Rattle.bitmap_index.proofs.words.bit_at.Goals as goal
 
-pub overflow-sub-rest : goal.overflow-sub-rest
-overflow-sub-rest c = places_positive c.loop-left.rest c.loop-left.left c.loop-left.invariant.1
+pub overflow_sub-rest : goal.overflow_sub-rest
+overflow_sub-rest c = places_positive c.loop-left.rest c.loop-left.left c.loop-left.invariant.1
 
 pub loop-left-preserved : goal.loop-left-preserved
 loop-left-preserved c =

@@ -22,8 +22,8 @@ loop-word-preserved c =
     let fits : w < 2 ^ 64 = omega arith in
     ap (λ (n : ℕ). n + ones w) c.loop-word.invariant ∙ sym (count_more ws i w (word_is ws (c.args.address / 64) i c.loop-word-test.true) fits)
 
-pub overflow-add-count : goal.overflow-add-count
-overflow-add-count c =
+pub overflow_add-count : goal.overflow_add-count
+overflow_add-count c =
     let ws = c.args.row.now in
     let i = c.loop-word.word-index in
     let w = get_or (take (c.args.address / 64 - 0) ws) i 0 in
@@ -40,8 +40,8 @@ whole ws a count i below e high low =
     let low' : bit_and w ((1 * 2 ^ k) % 18446744073709551616 - 1) ≡ w % 2 ^ k = ap (λ (x : ℕ). bit_and w (x - 1)) mask ∙ and_mask w k in
     ap (λ (x : ℕ). count + ones x) low' ∙ ap (λ (m : ℕ). m + ones (w % 2 ^ k)) (e ∙ ap (λ (j : ℕ). length (members (64 * j) ws)) n) ∙ sym (count_inside ws a)
 
-pub overflow-add-result : goal.overflow-add-result
-overflow-add-result c =
+pub overflow_add-result : goal.overflow_add-result
+overflow_add-result c =
     let ws = c.args.row.now in
     omega (arith, whole ws c.args.address c.loop-word.count c.loop-word.word-index c.requires.0 c.loop-word.invariant c.loop-word.auto.word-index-end c.loop-word-test.false, members_few c.args.address ws, c.requires.1)
 

@@ -8,4 +8,4 @@ loop-init c = refl
 
 pub loop-preserved : goal.loop-preserved
 unfolding inner_blocks
-loop-preserved c = rw (add-one c.loop.counter) (c.double-round.ensures ∙ ap inner_block c.loop.invariant)
+loop-preserved c = rw (add-one c.loop.counter) (c.double_round.ensures ∙ ap inner_block c.loop.invariant)

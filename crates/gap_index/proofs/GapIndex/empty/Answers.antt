@@ -9,8 +9,8 @@ returns-then-level-self c =
     let s = c.args.self.now in
     record { answer = clear_refused (lists_in s) s.levels c.args.level (lists_number s) c.if-level-self.true; lists = refl }
 
-pub invariant-of-self : goal.invariant-of-self
-invariant-of-self c =
+pub invariant_of-self : goal.invariant_of-self
+invariant_of-self c =
     let s = c.args.self.now in
     let k = clear_kept s.levels (vec_items s.sizes) (vec_items s.nexts) (vec_items s.gaps) c.args.level (kept s) c.if-level-self.false in
     (s.low, (s.high, (s.placed, (s.sized, (s.noted, (k.room, (k.positive, (k.ended, (k.inside, tt)))))))))

@@ -16,12 +16,12 @@ returns-then-level-self c =
       | then-level-self-via-else-level-self+then-position-index w ↦ inr (omega (arith, size_read s l _ w.if-level-self.false w.index.ensures, size_in s l w.if-level-self.false, w.if-position-index.true))
     ])
 
-pub member-at-requires : goal.member-at-requires
-member-at-requires c =
+pub member_at-requires : goal.member_at-requires
+member_at-requires c =
     let s = c.args.self.now in
     let l = c.args.level in
     let h = c.if-level-self.false in
-    let r = c.row-of.ensures in
+    let r = c.row_of.ensures in
     let n = size_of_gaps s.levels (vec_items s.sizes) (vec_items s.nexts) (vec_items s.gaps) l (kept s) h in
     record {
       inside = omega (arith, ap length r, n, size_read s l _ h c.index.ensures, c.if-position-index.false);
@@ -37,4 +37,4 @@ returns c =
     let h = c.if-level-self.false in
     member_present (lists_in s) s.levels l p _ (lists_number s) h
     (omega (arith, size_read s l _ h c.index.ensures, size_in s l h, c.if-position-index.false))
-    (c.member-at.ensures ∙ ap (λ (gs : List ℕ). get_or (listed gs) p 0) c.row-of.ensures ∙ ap (λ (xs : List ℕ). get_or xs p 0) (sym (list_is s.levels (vec_items s.sizes) (vec_items s.gaps) l h)))
+    (c.member_at.ensures ∙ ap (λ (gs : List ℕ). get_or (listed gs) p 0) c.row_of.ensures ∙ ap (λ (xs : List ℕ). get_or xs p 0) (sym (list_is s.levels (vec_items s.sizes) (vec_items s.gaps) l h)))

@@ -14,64 +14,64 @@ index-requires c =
     let o = open_in s c.args.level c.args.address c.requires in
     omega (arith, o.level, s.noted)
 
-pub gap-to-gap-requires : goal.gap-to-gap-requires
-gap-to-gap-requires c =
+pub gap_to-gap-requires : goal.gap_to-gap-requires
+gap_to-gap-requires c =
     let s = c.args.self.now in
     let l = c.args.level in
     let o = open_in s l c.args.address c.requires in
     (omega (arith, o.over, next_read s l _ o.level c.index.ensures), small s l c.args.address c.requires)
 
-pub first-place-requires : goal.first-place-requires
-first-place-requires c =
+pub first_place-requires : goal.first_place-requires
+first_place-requires c =
     let s = c.args.self.now in
     let o = open_in s c.args.level c.args.address c.requires in
     omega (arith, o.level, s.high)
 
-pub overflow-add-first-place : goal.overflow-add-first-place
-overflow-add-first-place c =
+pub overflow_add-first_place : goal.overflow_add-first_place
+overflow_add-first_place c =
     let s = c.args.self.now in
     let l = c.args.level in
     let o = open_in s l c.args.address c.requires in
-    omega (arith, free_place s l c.args.address c.requires, size_read s l _ o.level c.index-size.ensures, c.first-place.ensures, s.gaps.small)
+    omega (arith, free_place s l c.args.address c.requires, size_read s l _ o.level c.index-size.ensures, c.first_place.ensures, s.gaps.small)
 
-pub index-mut-requires : goal.index-mut-requires
-index-mut-requires c =
+pub index_mut-requires : goal.index_mut-requires
+index_mut-requires c =
     let s = c.args.self.now in
     let l = c.args.level in
     let o = open_in s l c.args.address c.requires in
-    omega (arith, free_place s l c.args.address c.requires, size_read s l _ o.level c.index-size.ensures, c.first-place.ensures)
+    omega (arith, free_place s l c.args.address c.requires, size_read s l _ o.level c.index-size.ensures, c.first_place.ensures)
 
-pub overflow-add-self : goal.overflow-add-self
-overflow-add-self c =
+pub overflow_add-self : goal.overflow_add-self
+overflow_add-self c =
     let s = c.args.self.now in
     let l = c.args.level in
     let o = open_in s l c.args.address c.requires in
     omega (arith, few s l c.args.address c.requires, size_read s l _ o.level c.index-size.ensures)
 
-pub index-mut-requires-2 : goal.index-mut-requires-2
-index-mut-requires-2 c =
+pub index_mut-requires-2 : goal.index_mut-requires-2
+index_mut-requires-2 c =
     let s = c.args.self.now in
     let o = open_in s c.args.level c.args.address c.requires in
     omega (arith, o.level, s.sized)
 
-pub overflow-add-self-2 : goal.overflow-add-self-2
-overflow-add-self-2 c =
+pub overflow_add-self-2 : goal.overflow_add-self-2
+overflow_add-self-2 c =
     let s = c.args.self.now in
     omega (arith, small s c.args.level c.args.address c.requires)
 
-pub index-mut-requires-3 : goal.index-mut-requires-3
-index-mut-requires-3 c =
+pub index_mut-requires-3 : goal.index_mut-requires-3
+index_mut-requires-3 c =
     let s = c.args.self.now in
     let o = open_in s c.args.level c.args.address c.requires in
     omega (arith, o.level, s.noted)
 
-pub invariant-of-self : goal.invariant-of-self
-invariant-of-self c =
+pub invariant_of-self : goal.invariant_of-self
+invariant_of-self c =
     let s = c.args.self.now in
     let l = c.args.level in
     let a = c.args.address in
     let o = open_in s l a c.requires in
-    let k = kept_after s l a _ _ _ c.requires (record { size_is = size_read s l _ o.level c.index-size.ensures; first_is = c.first-place.ensures; gap_is = c.gap-to-gap.ensures ∙ ap (λ (n : ℕ). a + 1 - n) (next_read s l _ o.level c.index.ensures) }) in
+    let k = kept_after s l a _ _ _ c.requires (record { size_is = size_read s l _ o.level c.index-size.ensures; first_is = c.first_place.ensures; gap_is = c.gap_to-gap.ensures ∙ ap (λ (n : ℕ). a + 1 - n) (next_read s l _ o.level c.index.ensures) }) in
     (s.low, (s.high, (s.placed, (s.sized, (s.noted, (k.room, (k.positive, (k.ended, (k.inside, tt)))))))))
 
 pub returns : goal.returns
@@ -80,4 +80,4 @@ returns c =
     let l = c.args.level in
     let a = c.args.address in
     let o = open_in s l a c.requires in
-    lists_after s l a _ _ _ c.requires (record { size_is = size_read s l _ o.level c.index-size.ensures; first_is = c.first-place.ensures; gap_is = c.gap-to-gap.ensures ∙ ap (λ (n : ℕ). a + 1 - n) (next_read s l _ o.level c.index.ensures) })
+    lists_after s l a _ _ _ c.requires (record { size_is = size_read s l _ o.level c.index-size.ensures; first_is = c.first_place.ensures; gap_is = c.gap_to-gap.ensures ∙ ap (λ (n : ℕ). a + 1 - n) (next_read s l _ o.level c.index.ensures) })

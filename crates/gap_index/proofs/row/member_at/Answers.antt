@@ -5,8 +5,8 @@ use Rattle.gap_index.proofs.row.member_at.Goals as goal
 pub total-requires : goal.total-requires
 total-requires c = omega (arith, sum_front c.args.gaps.now (c.args.position + 1 - 0), c.requires.small)
 
-pub overflow-sub-result : goal.overflow-sub-result
-overflow-sub-result c =
+pub overflow_sub-result : goal.overflow_sub-result
+overflow_sub-result c =
     let gs = c.args.gaps.now in
     let p = c.args.position in
     let same : sum (take (p + 1 - 0) gs) ≡ sum (take (p + 1) gs) = ap (λ (n : ℕ). sum (take n gs)) {x = p + 1 - 0} {y = p + 1} (omega arith) in

@@ -3,20 +3,20 @@ use Rattle.std.proofs.lemmas.List.{take_all}
 use Rattle.gap_index.proofs.Listed.{length_le_sum, sum_more, sum_front, rank_here, rank_between, rank_after}
 use Rattle.gap_index.proofs.row.rank_of.Goals as goal
 
-pub overflow-add-next : goal.overflow-add-next
-overflow-add-next c =
+pub overflow_add-next : goal.overflow_add-next
+overflow_add-next c =
     let gs = c.args.gaps.now in
     let i = c.loop-rank.rank in
     omega (arith, sum_more gs i c.loop-rank-test.true, sum_front gs (i + 1), c.requires.small, c.loop-rank.invariant.0)
 
-pub overflow-add-address : goal.overflow-add-address
-overflow-add-address c =
+pub overflow_add-address : goal.overflow_add-address
+overflow_add-address c =
     let gs = c.args.gaps.now in
     let i = c.loop-rank.rank in
     omega (arith, sum_more gs i c.loop-rank-test.true, sum_front gs (i + 1), c.requires.small, c.loop-rank.invariant.0, c.if-address-next.true)
 
-pub overflow-cast-result : goal.overflow-cast-result
-overflow-cast-result c =
+pub overflow_cast-result : goal.overflow_cast-result
+overflow_cast-result c =
     let gs = c.args.gaps.now in
     omega (arith, length_le_sum gs c.requires.positive, c.requires.small, c.loop-rank-test.true)
 

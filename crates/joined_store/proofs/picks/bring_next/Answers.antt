@@ -14,7 +14,7 @@ returns g c =
     record {
       mid = ap (λ k. mid + k) (sym (cond-false b 0 w no));
       items =
-          part_rotated c.args.at mid w xs (take (mid + w - c.args.at) (drop c.args.at xs)) c.rotate-right.new.self c.requires.at hi refl c.rotate-right.ensures.after
+          part_rotated c.args.at mid w xs (take (mid + w - c.args.at) (drop c.args.at xs)) c.rotate_right.new.self c.requires.at hi refl c.rotate_right.ensures.after
           ∙ sym (cond-false b xs _ no);
     }
 

@@ -10,7 +10,7 @@ loop-p-preserved c =
     let room : c.loop-p.count < length c.loop-p.own = omega arith in
     let e = pick_more c.args.part c.args.n ps i c.loop-p.own c.loop-p.count c.loop-p-test.true room in
     let k = pick_count c.args.part c.args.n (get_or ps i 0) c.loop-p.count i c.loop-p.invariant.0 in
-    (rw c.pick-next-count.ensures.count k, rw (c.pick-next-count.ensures.count, c.pick-next-count.ensures.own) (e ∙ c.loop-p.invariant.1))
+    (rw c.pick_next-count.ensures.count k, rw (c.pick_next-count.ensures.count, c.pick_next-count.ensures.own) (e ∙ c.loop-p.invariant.1))
 
 pub returns : goal.returns
 returns c =

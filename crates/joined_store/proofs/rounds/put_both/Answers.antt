@@ -8,8 +8,8 @@ use Rattle.joined_store.specs.Inner.{Shares}
 use Rattle.joined_store.specs.States.{joins_facts, accepted, shares_first, shares_second}
 use Rattle.joined_store.proofs.rounds.put_both.Goals as goal
 
-pub put-part-requires : goal.put-part-requires
-put-part-requires g c =
+pub put_part-requires : goal.put_part-requires
+put_part-requires g c =
     let a = g.F.Store.state c.args.first.now in
     let b = g.S.Store.state c.args.second.now in
     let ps = c.args.places.now in
@@ -21,8 +21,8 @@ put-part-requires g c =
       room = c.requires.room ∙ ap (λ x. 13 * x) (sym (joins_facts c.args.width a b c.requires.joins).0);
     }
 
-pub put-part-requires-2 : goal.put-part-requires-2
-put-part-requires-2 g c =
+pub put_part-requires-2 : goal.put_part-requires-2
+put_part-requires-2 g c =
     let a = g.F.Store.state c.args.first.now in
     let b = g.S.Store.state c.args.second.now in
     let ps = c.args.places.now in
@@ -31,5 +31,5 @@ put-part-requires-2 g c =
     let h = accepted c.args.width _ ps k m c.requires.accepted in
     record {
       share = subst (λ (n : ℕ). Shares b Second n ps k m) (sym c.places-n.ensures) (shares_second c.args.width a b ps k m c.requires.joins h);
-      room = c.put-part.auto.staging ∙ c.requires.room ∙ ap (λ x. 13 * x) (sym (joins_facts c.args.width a b c.requires.joins).1);
+      room = c.put_part.auto.staging ∙ c.requires.room ∙ ap (λ x. 13 * x) (sym (joins_facts c.args.width a b c.requires.joins).1);
     }

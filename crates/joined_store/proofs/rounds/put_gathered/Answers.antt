@@ -25,8 +25,8 @@ gather-requires-2 g c =
       out = c.requires.payloads ∙ ap (λ l. length l * w) c.requires.own ∙ ap (λ x. length (places_in c.args.part c.args.n ps) * x) (sym c.width-width.ensures) ∙ sym (items_length c.args.part c.args.n c.width-width.result ps c.args.bytes.now items);
     }
 
-pub put-into-requires : goal.put-into-requires
-put-into-requires g c =
+pub put_into-requires : goal.put_into-requires
+put_into-requires g c =
     let ps = c.args.places.now in
     let s = g.S.Store.state c.args.store.now in
     let own = c.requires.own in
@@ -47,7 +47,7 @@ returns g c =
     let f : List ℕ → List ℕ → List ℕ → State = λ l k b. ran s (put_round s l k b) in
     let mine = places_in c.args.part c.args.n ps in
     let keys = items_in c.args.part c.args.n 1 ps c.args.keys.now in
-    c.put-into.ensures
+    c.put_into.ensures
     ∙ ap (λ l. f l c.gather.new.out c.gather-2.new.out) c.requires.own
     ∙ ap (λ k. f mine k c.gather-2.new.out) c.gather.ensures
     ∙ ap (λ b. f mine keys b) (c.gather-2.ensures ∙ ap (λ w. items_in c.args.part c.args.n w ps c.args.bytes.now) c.width-width.ensures)

@@ -17,20 +17,20 @@ returns-then-count-places g c =
     let bytes = items_all c.args.part c.args.n s.width ps c.args.bytes.now all c.requires.share.bytes in
     let own = c.pick-count.ensures.own in
     let count : c.pick-count.result - 0 ≡ c.pick-count.result = omega arith in
-    c.put-into.ensures
+    c.put_into.ensures
     ∙ ap (λ l. f l c.args.keys.now c.args.bytes.now) (ap (λ k. take k c.pick-count.new.own) count ∙ own)
     ∙ ap (λ k. f mine k c.args.bytes.now) (sym keys)
     ∙ ap (λ b. f mine (items_in c.args.part c.args.n 1 ps c.args.keys.now) b) (sym bytes)
 
-pub overflow-mul-size : goal.overflow-mul-size
-overflow-mul-size g c =
+pub overflow_mul-size : goal.overflow_mul-size
+overflow_mul-size g c =
     let few : c.pick-count.result ≤ 13 = omega arith in
     let p = mul-le-mul_right c.width.result few in
     let q : 13 * c.width.result ≡ length c.args.staging.now = ap (λ x. 13 * x) c.width.ensures ∙ sym c.requires.room in
     omega arith
 
-pub slice-bounds-put-gathered-end-2 : goal.slice-bounds-put-gathered-end-2
-slice-bounds-put-gathered-end-2 g c =
+pub slice_bounds-put_gathered-end-2 : goal.slice_bounds-put_gathered-end-2
+slice_bounds-put_gathered-end-2 g c =
     let few : c.pick-count.result ≤ 13 = omega arith in
     let p = mul-le-mul_right c.width.result few in
     let q : 13 * c.width.result ≡ length c.args.staging.now = ap (λ x. 13 * x) c.width.ensures ∙ sym c.requires.room in

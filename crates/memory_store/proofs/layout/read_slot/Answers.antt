@@ -5,6 +5,6 @@ pub returns : goal.returns
 returns c =
     let size : (c.args.from + 4 + length c.args.payload.now) - (c.args.from + 4) ≡ length c.args.payload.now = omega arith in
     record {
-      key = simp (get_or-drop, add-zero) c.from-le-bytes.ensures;
-      payload = c.copy-from-slice.ensures.after ∙ ap (λ n. take n (drop (c.args.from + 4) c.args.memory.now)) size;
+      key = simp (get_or-drop, add-zero) c.from_le_bytes.ensures;
+      payload = c.copy_from_slice.ensures.after ∙ ap (λ n. take n (drop (c.args.from + 4) c.args.memory.now)) size;
     }

@@ -8,18 +8,18 @@ use Rattle.memory_store.specs.Memory.{span, decoded}
 use Rattle.memory_store.specs.Bytes.{slot_inside, payload_fits, next_payload, length_part, decoded_at}
 use Rattle.memory_store.proofs.layout.read_slots.Goals as goal
 
-pub overflow-add-end : goal.overflow-add-end
-overflow-add-end c = omega (arith, payload_fits (length c.args.places.now) c.loop-i.i c.args.width (omega arith))
+pub overflow_add-end : goal.overflow_add-end
+overflow_add-end c = omega (arith, payload_fits (length c.args.places.now) c.loop-i.i c.args.width (omega arith))
 
-pub overflow-mul-places : goal.overflow-mul-places
-overflow-mul-places c =
+pub overflow_mul-places : goal.overflow_mul-places
+overflow_mul-places c =
     omega (arith, slot_inside c.args.count c.args.width (length c.args.memory.now) c.args.places.now c.loop-i.i c.requires.places c.requires.memory c.loop-i-test.true)
 
-pub slice-bounds-read-slot-end : goal.slice-bounds-read-slot-end
-slice-bounds-read-slot-end c = omega (arith, payload_fits (length c.args.places.now) c.loop-i.i c.args.width (omega arith))
+pub slice_bounds-read_slot-end : goal.slice_bounds-read_slot-end
+slice_bounds-read_slot-end c = omega (arith, payload_fits (length c.args.places.now) c.loop-i.i c.args.width (omega arith))
 
-pub read-slot-requires : goal.read-slot-requires
-read-slot-requires c =
+pub read_slot-requires : goal.read_slot-requires
+read_slot-requires c =
     let inner = payload_fits (length c.args.places.now) c.loop-i.i c.args.width c.loop-i-test.true in
     let outer = slot_inside c.args.count c.args.width (length c.args.memory.now) c.args.places.now c.loop-i.i c.requires.places c.requires.memory c.loop-i-test.true in
     rw (length_part c.loop-i.bytes c.loop-i.at c.args.width (omega arith)) (omega arith)
@@ -37,17 +37,17 @@ loop-i-preserved c =
     let inner = payload_fits (length ps) i w h in
     let here = decoded_at w c.args.count mem p (inside_at c.args.count ps i c.requires.places h) in
     let size : length (take ((at + w) - at) (drop at c.loop-i.bytes)) ≡ w = length_part c.loop-i.bytes at w (omega arith) in
-    let key : c.read-slot.result ≡ (slot_at slots p).key = c.read-slot.ensures.key ∙ sym (ap (λ s. s.key) here) in
-    let payload : c.read-slot.new.payload ≡ (slot_at slots p).bytes =
-    c.read-slot.ensures.payload ∙ ap (λ n. take n (drop (p * span w + 4) mem)) size ∙ sym (ap (λ s. s.bytes) here) in
-    let long : length c.read-slot.new.payload ≡ w = omega arith in (
+    let key : c.read_slot.result ≡ (slot_at slots p).key = c.read_slot.ensures.key ∙ sym (ap (λ s. s.key) here) in
+    let payload : c.read_slot.new.payload ≡ (slot_at slots p).bytes =
+    c.read_slot.ensures.payload ∙ ap (λ n. take n (drop (p * span w + 4) mem)) size ∙ sym (ap (λ s. s.bytes) here) in
+    let long : length c.read_slot.new.payload ≡ w = omega arith in (
       ap (λ a. a + w) c.loop-i.invariant.0 ∙ next_payload i w,
-      take_more_set c.loop-i.keys i c.read-slot.result (omega arith)
-          ∙ ap (λ l. l ++ (c.read-slot.result ∷ [])) c.loop-i.invariant.1
+      take_more_set c.loop-i.keys i c.read_slot.result (omega arith)
+          ∙ ap (λ l. l ++ (c.read_slot.result ∷ [])) c.loop-i.invariant.1
           ∙ ap (λ k. keys_at slots (take i ps) ++ (k ∷ [])) key
           ∙ sym (keys_at_more slots ps i h),
-      take-put_mid at _ c.loop-i.bytes c.read-slot.new.payload (at + w) (omega arith) (omega arith)
-          ∙ ap (λ l. l ++ c.read-slot.new.payload) c.loop-i.invariant.2
+      take-put_mid at _ c.loop-i.bytes c.read_slot.new.payload (at + w) (omega arith) (omega arith)
+          ∙ ap (λ l. l ++ c.read_slot.new.payload) c.loop-i.invariant.2
           ∙ ap (λ bs. bytes_at slots (take i ps) ++ bs) payload
           ∙ sym (bytes_at_more slots ps i h),
     )

@@ -8,9 +8,9 @@ use Rattle.memory_store.proofs.rounds.count_slots.Goals as goal
 fitting : (w len n : ℕ) → n ≡ whole_slots w len → n * span w ≤ len
 fitting w len n e = subst (λ m. m * span w ≤ len) (sym e) (whole_slots_fit w len)
 
-pub returns-in-default : goal.returns-in-default
-returns-in-default c =
-    let big : 2 ^ 64 ≤ c.args.width + 4 = ⊎_elim (λ small. absurd (c.in-default.ensures small)) (λ h. h) (cases_lt (c.args.width + 4) (2 ^ 64)) in
+pub returns-in_default : goal.returns-in_default
+returns-in_default c =
+    let big : 2 ^ 64 ≤ c.args.width + 4 = ⊎_elim (λ small. absurd (c.in_default.ensures small)) (λ h. h) (cases_lt (c.args.width + 4) (2 ^ 64)) in
     let none : c.args.len / span c.args.width ≡ 0 = div-eq_of_lt (omega arith) in
     let value : 0 ≡ whole_slots c.args.width c.args.len = omega arith in
     record { value = value; fits = fitting c.args.width c.args.len 0 value }

@@ -2,8 +2,8 @@ use Rattle.std.proofs.Common.{◌≡◌, ◌+◌, ◌*◌, ◌%◌, ◌^◌, ◌
 use Rattle.std.proofs.lemmas.Nat.{one_shl}
 use Rattle.shape.proofs.numbers.start_of_scratch.Goals as goal
 
-pub overflow-sub-result : goal.overflow-sub-result
-overflow-sub-result c =
+pub overflow_sub-result : goal.overflow_sub-result
+overflow_sub-result c =
     let whole : (1 * 2 ^ (c.args.levels + 2)) % 4294967296 ≡ 2 ^ (c.args.levels + 2) = one_shl (c.args.levels + 2) 32 (omega arith) in
     let p : 2 ^ 1 ≤ 2 ^ (c.args.levels + 2) = pow_mono {i = 1} (omega arith) in
     rw whole (omega arith)

@@ -7,13 +7,13 @@ use Rattle.joined_store.specs.Whole.{state_of}
 use Rattle.joined_store.specs.States.{admitted, joined_accepts, after_fetch}
 use Rattle.joined_store.proofs.serve.JoinedStoreStore.fetch.Goals as goal
 
-pub fetch-both-requires : goal.fetch-both-requires
-fetch-both-requires g c =
+pub fetch_both-requires : goal.fetch_both-requires
+fetch_both-requires g c =
     let j = c.args.self.now in
     let ps = c.args.places.now in
     let k = length c.args.keys.now in
     let m = length c.args.bytes.now in
-    let ok = admitted (state_of g.F.Store.state g.S.Store.state j) ps c.places.result k m c.in-default.field-0 c.admit.result c.places.ensures c.admit.ensures c.in-default.is in
+    let ok = admitted (state_of g.F.Store.state g.S.Store.state j) ps c.places.result k m c.in_default.field-0 c.admit.result c.places.ensures c.admit.ensures c.in_default.is in
     let h = joined_accepts j.width (g.F.Store.state j.first) (g.S.Store.state j.second) j.meter.served j.meter.trail ps k m ok in
     record { joins = h.0; accepted = h.1 }
 
@@ -25,15 +25,15 @@ returns g c =
     let ps = c.args.places.now in
     let k = length c.args.keys.now in
     let m = length c.args.bytes.now in
-    let ok = admitted (state_of g.F.Store.state g.S.Store.state j) ps c.places.result k m c.in-default.field-0 c.admit.result c.places.ensures c.admit.ensures c.in-default.is in
+    let ok = admitted (state_of g.F.Store.state g.S.Store.state j) ps c.places.result k m c.in_default.field-0 c.admit.result c.places.ensures c.admit.ensures c.in_default.is in
     let h = joined_accepts j.width a b j.meter.served j.meter.trail ps k m ok in
     let slots = cond-true (joins j.width a b) (a.slots ++ b.slots) [] h.0 in
     record {
       answer = sym ok;
-      state = after_fetch j.width a b (g.F.Store.state c.fetch-both.new.first) (g.S.Store.state c.fetch-both.new.second) j.meter.served j.meter.trail c.run.new.self.served c.run.new.self.trail ps
-          h.0 c.fetch-both.ensures.first c.fetch-both.ensures.second c.run.ensures.served c.run.ensures.trail;
-      keys = c.fetch-both.ensures.keys ∙ ap (λ l. keys_at l ps) (sym slots);
-      bytes = c.fetch-both.ensures.bytes ∙ ap (λ l. bytes_at l ps) (sym slots);
-      first = c.fetch-both.ensures.first;
-      second = c.fetch-both.ensures.second;
+      state = after_fetch j.width a b (g.F.Store.state c.fetch_both.new.first) (g.S.Store.state c.fetch_both.new.second) j.meter.served j.meter.trail c.run.new.self.served c.run.new.self.trail ps
+          h.0 c.fetch_both.ensures.first c.fetch_both.ensures.second c.run.ensures.served c.run.ensures.trail;
+      keys = c.fetch_both.ensures.keys ∙ ap (λ l. keys_at l ps) (sym slots);
+      bytes = c.fetch_both.ensures.bytes ∙ ap (λ l. bytes_at l ps) (sym slots);
+      first = c.fetch_both.ensures.first;
+      second = c.fetch_both.ensures.second;
     }
