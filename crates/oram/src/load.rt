@@ -39,12 +39,12 @@ fn put_index<S: Store>(
 )
     requires high { levels ≤ 12 }
     requires narrow { width ≤ 512 }
-    requires wide { (state store.old).width ≡ width }
+    requires wide { (S.state store.old).width ≡ width }
     requires bytes { length bytes.now ≡ blocks levels * width }
-    requires inside { place < length (state store.old).slots }
+    requires inside { place < length (S.state store.old).slots }
     requires index { index < level_slots levels }
     requires room { at < length trace.old }
-    ensures store { state store.new ≡ ran (state store.old) (put_request place (loaded_slot levels width bytes.now index) ∷ []) }
+    ensures store { S.state store.new ≡ ran (S.state store.old) (put_request place (loaded_slot levels width bytes.now index) ∷ []) }
     ensures trace { trace.new ≡ slice_set trace.old at (entry_of true true place) }
 {
     if index < numbers::block_count(levels) {
@@ -76,15 +76,15 @@ fn load_slot<S: Store, P: Supply>(
 )
     requires high { levels ≤ 12 }
     requires narrow { width ≤ 512 }
-    requires wide { (state store.old).width ≡ width }
-    requires places { places_needed levels ≤ length (state store.old).slots }
-    requires supply { (choice supply.old).levels ≡ levels }
+    requires wide { (S.state store.old).width ≡ width }
+    requires places { places_needed levels ≤ length (S.state store.old).slots }
+    requires supply { (P.choice supply.old).levels ≡ levels }
     requires bytes { length bytes.now ≡ blocks levels * width }
     requires room { level_slots levels ≤ length trace.old }
     requires slot { slot < level_slots levels }
-    ensures store { state store.new ≡ ran (state store.old) (load_request levels width (choice supply.old) bytes.now slot ∷ []) }
-    ensures supply { choice supply.new ≡ choice supply.old }
-    ensures trace { trace.new ≡ slice_set trace.old slot (load_request levels width (choice supply.old) bytes.now slot).entry }
+    ensures store { S.state store.new ≡ ran (S.state store.old) (load_request levels width (P.choice supply.old) bytes.now slot ∷ []) }
+    ensures supply { P.choice supply.new ≡ P.choice supply.old }
+    ensures trace { trace.new ≡ slice_set trace.old slot (load_request levels width (P.choice supply.old) bytes.now slot).entry }
 {
     let index = match supply.index_of(0, slot) {
         Ok(index) => index,
@@ -114,14 +114,14 @@ fn load_level<S: Store, P: Supply>(
 )
     requires high { levels ≤ 12 }
     requires narrow { width ≤ 512 }
-    requires wide { (state store.old).width ≡ width }
-    requires places { places_needed levels ≤ length (state store.old).slots }
-    requires supply { (choice supply.old).levels ≡ levels }
+    requires wide { (S.state store.old).width ≡ width }
+    requires places { places_needed levels ≤ length (S.state store.old).slots }
+    requires supply { (P.choice supply.old).levels ≡ levels }
     requires bytes { length bytes.now ≡ blocks levels * width }
     requires room { level_slots levels ≤ length trace.old }
-    ensures store { state store.new ≡ ran (state store.old) (load_requests levels width (choice supply.old) bytes.now) }
-    ensures supply { choice supply.new ≡ choice supply.old }
-    ensures trace { trace.new ≡ sets trace.old 0 (entries (load_requests levels width (choice supply.old) bytes.now)) }
+    ensures store { S.state store.new ≡ ran (S.state store.old) (load_requests levels width (P.choice supply.old) bytes.now) }
+    ensures supply { P.choice supply.new ≡ P.choice supply.old }
+    ensures trace { trace.new ≡ sets trace.old 0 (entries (load_requests levels width (P.choice supply.old) bytes.now)) }
 {
     for slot in 0..numbers::slots_of_level(levels) {
         load_slot(store, supply, levels, width, bytes, trace, slot);
@@ -152,7 +152,7 @@ fn note_load(core: &mut Core)
 impl<S: Store, I: Index, P: Supply> Client<S, I, P> {
     // Whether this load is accepted, and if not, why.
     fn admit_load(&self, turn: u32, bytes: usize, room: usize) -> Result<u32, Refusal>
-        ensures { result ≡ load_answer self.now.core (state self.now.store) (lists self.now.index) (choice self.now.supply) turn bytes room }
+        ensures { result ≡ load_answer self.now.core (S.state self.now.store) (I.lists self.now.index) (P.choice self.now.supply) turn bytes room }
     {
         if !self.stands_now() {
             return Err(Refusal::NotOpened);
@@ -177,14 +177,14 @@ impl<S: Store, I: Index, P: Supply> Client<S, I, P> {
         bytes: &[u8],
         trace: &mut [Entry],
     ) -> Result<Done<Resting>, Declined<Unloaded>>
-        ensures answer { answer_of result ≡ load_answer self.old.core (state self.old.store) (lists self.old.index) (choice self.old.supply) turn.number (length bytes.now) (length trace.old) }
+        ensures answer { answer_of result ≡ load_answer self.old.core (S.state self.old.store) (I.lists self.old.index) (P.choice self.old.supply) turn.number (length bytes.now) (length trace.old) }
         ensures turn { elim result [ Ok d ↦ d.turn.number ≡ turn.number + 1 | Err e ↦ e.turn ≡ turn ] }
         ensures core { self.new.core ≡ (if is_ok result then loaded self.old.core else self.old.core) }
-        ensures store { state self.new.store ≡ (if is_ok result then ran (state self.old.store) (load_requests self.old.core.levels self.old.core.width (choice self.old.supply) bytes.now) else state self.old.store) }
+        ensures store { S.state self.new.store ≡ (if is_ok result then ran (S.state self.old.store) (load_requests self.old.core.levels self.old.core.width (P.choice self.old.supply) bytes.now) else S.state self.old.store) }
         ensures index { self.new.index ≡ self.old.index }
-        ensures supply { choice self.new.supply ≡ choice self.old.supply }
-        ensures stands { stands self.new.core (state self.new.store) (lists self.new.index) (choice self.new.supply) ≡ stands self.old.core (state self.old.store) (lists self.old.index) (choice self.old.supply) }
-        ensures trace { trace.new ≡ (if is_ok result then sets trace.old 0 (entries (load_requests self.old.core.levels self.old.core.width (choice self.old.supply) bytes.now)) else trace.old) }
+        ensures supply { P.choice self.new.supply ≡ P.choice self.old.supply }
+        ensures stands { stands self.new.core (S.state self.new.store) (I.lists self.new.index) (P.choice self.new.supply) ≡ stands self.old.core (S.state self.old.store) (I.lists self.old.index) (P.choice self.old.supply) }
+        ensures trace { trace.new ≡ (if is_ok result then sets trace.old 0 (entries (load_requests self.old.core.levels self.old.core.width (P.choice self.old.supply) bytes.now)) else trace.old) }
     {
         let entries = match self.admit_load(turn.number, bytes.len(), trace.len()) {
             Ok(entries) => entries,

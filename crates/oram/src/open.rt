@@ -28,20 +28,20 @@ fn is_in_range(levels: u32, width: usize) -> bool
 
 fn suits_store<S: Store>(levels: u32, width: usize, store: &S) -> bool
     requires { levels ≤ 12 }
-    ensures { result ≡ store_suits levels width (state store.now) }
+    ensures { result ≡ store_suits levels width (S.state store.now) }
 {
     store.width() == width && numbers::needed_places(levels) <= store.places()
 }
 
 fn is_made_for<I: Index, P: Supply>(levels: u32, index: &I, supply: &P) -> bool
-    ensures { result ≡ made_for levels (lists index.now) (choice supply.now) }
+    ensures { result ≡ made_for levels (I.lists index.now) (P.choice supply.now) }
 {
     index.levels() == levels && supply.levels() == levels
 }
 
 fn is_list_empty<I: Index>(index: &I, level: u32) -> bool
-    requires { level < length (lists index.now) }
-    ensures { result ≡ (length (list_at (lists index.now) level) == 0) }
+    requires { level < length (I.lists index.now) }
+    ensures { result ≡ (length (list_at (I.lists index.now) level) == 0) }
 {
     match index.size(level) {
         Some(size) => size == 0,
@@ -50,7 +50,7 @@ fn is_list_empty<I: Index>(index: &I, level: u32) -> bool
 }
 
 fn is_empty<I: Index>(index: &I) -> bool
-    ensures { result ≡ all_empty (lists index.now) }
+    ensures { result ≡ all_empty (I.lists index.now) }
 {
     for level in 0..index.levels() {
         if !is_list_empty(index, level) {
@@ -68,7 +68,7 @@ fn refusal_at_opening<S: Store, I: Index, P: Supply>(
     index: &I,
     supply: &P,
 ) -> Option<Refusal>
-    ensures { result ≡ opening_refusal levels width (state store.now) (lists index.now) (choice supply.now) }
+    ensures { result ≡ opening_refusal levels width (S.state store.now) (I.lists index.now) (P.choice supply.now) }
 {
     if !is_in_range(levels, width) {
         return Some(Refusal::OutOfRange);
@@ -93,7 +93,7 @@ pub(crate) fn suits_parts<S: Store, I: Index, P: Supply>(
     index: &I,
     supply: &P,
 ) -> bool
-    ensures { result ≡ suits levels width (state store.now) (lists index.now) (choice supply.now) }
+    ensures { result ≡ suits levels width (S.state store.now) (I.lists index.now) (P.choice supply.now) }
 {
     if !is_in_range(levels, width) {
         return false;
@@ -104,11 +104,11 @@ pub(crate) fn suits_parts<S: Store, I: Index, P: Supply>(
 impl<S: Store, I: Index, P: Supply> Client<S, I, P> {
     // Always gives a client and an unloaded turn; a client opened with a refusal declines everything.
     pub fn open(levels: u32, width: usize, store: S, index: I, supply: P) -> Opening<S, I, P>
-        ensures refusal { result.refusal ≡ opening_refusal levels width (state store) (lists index) (choice supply) }
+        ensures refusal { result.refusal ≡ opening_refusal levels width (S.state store) (I.lists index) (P.choice supply) }
         ensures core { result.client.core ≡ opened result.refusal levels width }
         ensures parts { (result.client.store ≡ store) × (result.client.index ≡ index) × (result.client.supply ≡ supply) }
         ensures turn { result.turn.number ≡ 0 }
-        ensures stands { stands result.client.core (state result.client.store) (lists result.client.index) (choice result.client.supply) ≡ unrefused result.refusal }
+        ensures stands { stands result.client.core (S.state result.client.store) (I.lists result.client.index) (P.choice result.client.supply) ≡ unrefused result.refusal }
     {
         let refusal = refusal_at_opening(levels, width, &store, &index, &supply);
         let core = Core {
@@ -133,7 +133,7 @@ impl<S: Store, I: Index, P: Supply> Client<S, I, P> {
 
     // Whether it was opened without a refusal. Its parts are asked again: width, places and levels never change.
     pub(crate) fn stands_now(&self) -> bool
-        ensures { result ≡ stands self.now.core (state self.now.store) (lists self.now.index) (choice self.now.supply) }
+        ensures { result ≡ stands self.now.core (S.state self.now.store) (I.lists self.now.index) (P.choice self.now.supply) }
     {
         match self.core.refusal {
             Some(_) => false,

@@ -27,10 +27,10 @@ pub(crate) fn put_slot<S: Store>(
     trace: &mut [Entry],
     at: usize,
 )
-    requires inside { place < length (state store.old).slots }
-    requires wide { length payload.now ≡ (state store.old).width }
+    requires inside { place < length (S.state store.old).slots }
+    requires wide { length payload.now ≡ (S.state store.old).width }
     requires room { at < length trace.old }
-    ensures store { state store.new ≡ ran (state store.old) (put_request place (record { key = key; bytes = payload.now }) ∷ []) }
+    ensures store { S.state store.new ≡ ran (S.state store.old) (put_request place (record { key = key; bytes = payload.now }) ∷ []) }
     ensures trace { trace.new ≡ slice_set trace.old at (entry_of true true place) }
 {
     match store.put(&[place], &[key], payload) {

@@ -1,7 +1,7 @@
 use Rattle.keyed_supply.proofs.rounds.+even_back_odd_back.Given as goal
 
-abbrev pub decreases-even-back : goal.decreases-even-back
-decreases-even-back l = l.rounds
+abbrev pub decreases-even_back : goal.decreases-even_back
+decreases-even_back l = l.rounds
 
-abbrev pub decreases-odd-back : goal.decreases-odd-back
-decreases-odd-back l = l.rounds
+abbrev pub decreases-odd_back : goal.decreases-odd_back
+decreases-odd_back l = l.rounds

@@ -12,7 +12,7 @@ even-returns-then-rounds-eq0 t c =
 pub even-returns : goal.even-returns
 even-returns t c =
     let net = network c.args.key.now.words c.args.build.number c.args.build.level in
-    c.odd.ensures ∙ ap (λ (l : ℕ). from_odd net (c.args.rounds - 1) l c.args.right) c.change-left-left.ensures
+    c.odd.ensures ∙ ap (λ (l : ℕ). from_odd net (c.args.rounds - 1) l c.args.right) c.change_left-left.ensures
     ∙ even_more net c.args.rounds c.args.left c.args.right (omega (arith, c.if-rounds-eq0.false))
 
 pub odd-returns-then-rounds-eq0 : goal.odd-returns-then-rounds-eq0
@@ -23,5 +23,5 @@ odd-returns-then-rounds-eq0 t c =
 pub odd-returns : goal.odd-returns
 odd-returns t c =
     let net = network c.args.key.now.words c.args.build.number c.args.build.level in
-    c.even.ensures ∙ ap (λ (r : ℕ). from_even net (c.args.rounds - 1) c.args.left r) c.change-right-right.ensures
+    c.even.ensures ∙ ap (λ (r : ℕ). from_even net (c.args.rounds - 1) c.args.left r) c.change_right-right.ensures
     ∙ odd_more net c.args.rounds c.args.left c.args.right (omega (arith, c.if-rounds-eq0.false))

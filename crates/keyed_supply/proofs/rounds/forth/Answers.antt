@@ -8,7 +8,7 @@ use Rattle.keyed_supply.proofs.rounds.forth.Goals as goal
 pub join-requires : goal.join-requires
 join-requires c =
     let net = network c.args.key.now.words c.args.build.number c.args.build.level in
-    let run = c.all-forth-left.ensures ∙ ap (λ (h : ℕ × ℕ). from_even net 8 h.0 h.1) c.split-left.ensures in
+    let run = c.all_forth-left.ensures ∙ ap (λ (h : ℕ × ℕ). from_even net 8 h.0 h.1) c.split-left.ensures in
     let inside = within_numbers c.args.key.now.words c.args.build.number c.args.build.level c.args.index c.requires.1 in
     let kept = subst (Kept net) (sym run) (forth_kept net c.args.index inside) in
     (c.requires.0, kept.0, kept.1)
@@ -18,4 +18,4 @@ unfolding forth
 returns c =
     let net = network c.args.key.now.words c.args.build.number c.args.build.level in
     c.join.ensures
-    ∙ ap (joined net) (c.all-forth-left.ensures ∙ ap (λ (h : ℕ × ℕ). from_even net 8 h.0 h.1) c.split-left.ensures)
+    ∙ ap (joined net) (c.all_forth-left.ensures ∙ ap (λ (h : ℕ × ℕ). from_even net 8 h.0 h.1) c.split-left.ensures)

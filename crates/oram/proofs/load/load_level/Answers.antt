@@ -7,8 +7,8 @@ use Rattle.store.proofs.Requests.{wrote_length, ran_more, sets_more}
 use Rattle.oram.specs.Loading.{load_request}
 use Rattle.oram.proofs.load.load_level.Goals as goal
 
-pub load-slot-requires : goal.load-slot-requires
-load-slot-requires g c =
+pub load_slot-requires : goal.load_slot-requires
+load_slot-requires g c =
     let s = g.S.Store.state c.args.store.now in
     let f = load_request c.args.levels c.args.width (g.P.Supply.choice c.args.supply.now) c.args.bytes.now in
     let rs = map f (range_with_len 0 c.loop-slot.slot) in
@@ -32,12 +32,12 @@ loop-slot-preserved g c =
     let f = load_request c.args.levels c.args.width p c.args.bytes.now in
     let n = c.loop-slot.slot in
     let here = ap (λ q. load_request c.args.levels c.args.width q c.args.bytes.now n) c.loop-slot.invariant.1 in (
-      c.load-slot.ensures.store
+      c.load_slot.ensures.store
           ∙ ap (λ t. ran t (load_request c.args.levels c.args.width (g.P.Supply.choice c.loop-slot.supply) c.args.bytes.now n ∷ [])) c.loop-slot.invariant.0
           ∙ ap (λ r. ran (ran s (map f (range_with_len 0 n))) (r ∷ [])) here
           ∙ ran_more s f n,
-      c.load-slot.ensures.supply ∙ c.loop-slot.invariant.1,
-      c.load-slot.ensures.trace
+      c.load_slot.ensures.supply ∙ c.loop-slot.invariant.1,
+      c.load_slot.ensures.trace
           ∙ ap (λ t. set t n (load_request c.args.levels c.args.width (g.P.Supply.choice c.loop-slot.supply) c.args.bytes.now n).entry) c.loop-slot.invariant.2
           ∙ ap (λ r. set (sets c.args.trace.now 0 (entries (map f (range_with_len 0 n)))) n r.entry) here
           ∙ sets_more c.args.trace.now f n,

@@ -8,8 +8,8 @@ pub unreachable-requires : goal.unreachable-requires
 unreachable-requires g c =
     not_both c.in-Err.ensures.answer (first_index (g.P.Supply.choice c.args.supply.now) (g.met.P.Supply.lawful c.args.supply.now) c.args.levels c.args.slot c.requires.supply c.requires.slot).0
 
-pub put-index-requires : goal.put-index-requires
-put-index-requires g c =
+pub put_index-requires : goal.put_index-requires
+put_index-requires g c =
     let known = first_index (g.P.Supply.choice c.args.supply.now) (g.met.P.Supply.lawful c.args.supply.now) c.args.levels c.args.slot c.requires.supply c.requires.slot in
     let same : c.in-Ok.index ≡ (g.P.Supply.choice c.args.supply.now).index_of 0 c.args.slot = same_ok c.in-Ok.ensures.answer known.0 in
     record {

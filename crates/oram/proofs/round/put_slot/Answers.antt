@@ -8,5 +8,5 @@ returns g c =
     let s = g.S.Store.state c.args.store.now in
     record {
       store = c.in-Ok.ensures.state ∙ ap (λ bs. ran s (put_request c.args.place (record { key = c.args.key; bytes = bs }) ∷ [])) (take_all s.width c.args.payload.now (omega arith));
-      trace = c.note-put.ensures;
+      trace = c.note_put.ensures;
     }

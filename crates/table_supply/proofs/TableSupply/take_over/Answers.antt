@@ -4,8 +4,8 @@ use Rattle.table_supply.specs.Inverses.{Inverse}
 use Rattle.table_supply.specs.Right.{levels_low, levels_high, permuted_below, permuted_found}
 use Rattle.table_supply.proofs.TableSupply.take_over.Goals as goal
 
-pub invariant-of-result : goal.invariant-of-result
-invariant-of-result c =
+pub invariant_of-result : goal.invariant_of-result
+invariant_of-result c =
     let L = c.args.levels in
     let K = c.args.builds in
     let slots = vec_items c.args.slots in

@@ -9,8 +9,8 @@ use Rattle.oram.specs.Opening.{stands}
 use Rattle.oram.proofs.Suits.{standing, stands_kept}
 use Rattle.oram.proofs.client.Client.load.Goals as goal
 
-pub load-level-requires : goal.load-level-requires
-load-level-requires g c =
+pub load_level-requires : goal.load_level-requires
+load_level-requires g c =
     let k = c.args.self.now.core in
     let s = g.S.Store.state c.args.self.now.store in
     let lists = g.I.Index.lists c.args.self.now.index in
@@ -36,20 +36,20 @@ returns g c =
     let s = g.S.Store.state c.args.self.now.store in
     let lists = g.I.Index.lists c.args.self.now.index in
     let choice = g.P.Supply.choice c.args.self.now.supply in
-    let after = g.S.Store.state c.load-level.new.store in
-    let later = g.P.Supply.choice c.load-level.new.supply in
+    let after = g.S.Store.state c.load_level.new.store in
+    let later = g.P.Supply.choice c.load_level.new.supply in
     let rs = load_requests k.levels k.width choice c.args.bytes.now in
     record {
       answer = c.in-Ok.ensures;
-      turn = c.after-load.ensures;
-      core = c.note-load.ensures;
-      store = c.load-level.ensures.store;
+      turn = c.after_load.ensures;
+      core = c.note_load.ensures;
+      store = c.load_level.ensures.store;
       index = refl;
-      supply = c.load-level.ensures.supply;
+      supply = c.load_level.ensures.supply;
       stands =
-          ap (λ j. stands j after lists later) c.note-load.ensures
-          ∙ ap (λ t. stands k t lists later) c.load-level.ensures.store
-          ∙ ap (λ p. stands k (ran s rs) lists p) c.load-level.ensures.supply
+          ap (λ j. stands j after lists later) c.note_load.ensures
+          ∙ ap (λ t. stands k t lists later) c.load_level.ensures.store
+          ∙ ap (λ p. stands k (ran s rs) lists p) c.load_level.ensures.supply
           ∙ stands_kept k s rs lists choice;
-      trace = c.load-level.ensures.trace;
+      trace = c.load_level.ensures.trace;
     }
