@@ -5,8 +5,8 @@ use Rattle.std.proofs.lemmas.Bool.{leb-true}
 use Rattle.index.specs.Lists.{list_at, above, takes, appended}
 use Rattle.gap_index.specs.Gaps.{gaps_from, gaps_of, gaps_at, lists_of}
 use Rattle.gap_index.specs.declared.GapIndex.{GapIndex}
-use Rattle.gap_index.proofs.Listed.{above_is, list_gives_the_gaps}
-use Rattle.gap_index.proofs.Levels.{Kept, Open, length_lists, list_is, size_is, more_sizes, more_gaps, append_kept, append_lists, place_inside}
+use Rattle.gap_index.specs.Listed.{above_is, list_gives_the_gaps}
+use Rattle.gap_index.specs.Levels.{Kept, Open, length_lists, list_is, size_is, more_sizes, more_gaps, append_kept, append_lists, place_inside}
 use Rattle.gap_index.proofs.Answered.{taken}
 
 abbrev pub lists_in : GapIndex → List (List ℕ)

@@ -1,4 +1,2 @@
-pub mod Listed
-pub mod Levels
 pub mod Answered
 pub mod Fields

@@ -1,1 +1,3 @@
 pub mod Gaps
+pub mod Listed
+pub mod Levels

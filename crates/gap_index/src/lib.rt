@@ -6,7 +6,8 @@ ghost use Rattle.shape.specs.Numbers.{levels_fit};
 ghost use Rattle.index.specs.Lists.{list_at, takes, size_answer, member_answer, rank_answer, append_answer, appended, clear_answer, cleared};
 ghost use Rattle.shape.specs.declared.make_error.MakeError.TheVariants.{Refused, NoMemory};
 ghost use Rattle.gap_index.specs.Gaps.{Positive, GapsGiveTheList, ListGivesTheGaps, gaps_at, gaps_of, lists_of};
-ghost use Rattle.std.proofs.Common.{rules, arith};
+ghost use Rattle.std.proofs.Common.{sym, ◌∙◌};
+ghost use Rattle.gap_index.specs.Levels.{Kept, lists_lawful};
 
 mod row;
 
@@ -176,7 +177,16 @@ impl GapIndex {
 impl Index for GapIndex {
     ghost lists = { λ s. lists_of s.levels s.sizes.items s.gaps.items };
 
-    ghost lawful = { first_of (Prim.search rules, Prim.grind (arith, Self.row.coded.inj)) };
+    ghost lawful = { λ s.
+        let kept : Kept s.levels s.sizes.items s.nexts.items s.gaps.items = record {
+          placed = sym s.gaps.ok.0 ∙ s.placed;
+          sized = sym s.sizes.ok.0 ∙ s.sized;
+          noted = sym s.nexts.ok.0 ∙ s.noted;
+          room = s.room;
+          positive = s.positive;
+          ended = s.ended;
+          inside = s.inside;
+        } in lists_lawful s.levels s.sizes.items s.nexts.items s.gaps.items s.low s.high kept };
 
     fn levels(&self) -> u32 {
         self.count_levels()

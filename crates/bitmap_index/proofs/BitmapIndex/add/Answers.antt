@@ -17,16 +17,16 @@ index_mut-requires c =
     let t = taken s.levels s.stride (vec_items s.words) c.args.level c.args.address (sym c.can_take.ensures ∙ c.if-not-can_take.false) in
     omega (arith, t.level, s.sized)
 
-pub overflow_add-self : goal.overflow_add-self
-overflow_add-self c =
+pub overflow_add-index_mut : goal.overflow_add-index_mut
+overflow_add-index_mut c =
     let s = c.args.self.now in
     let ws = vec_items s.words in
     let t = taken s.levels s.stride ws c.args.level c.args.address (sym c.can_take.ensures ∙ c.if-not-can_take.false) in
     let size = read_at length s.levels s.stride ws (vec_items s.sizes) c.args.level _ s.counted t.level c.index_mut.ensures.value in
     omega (arith, size, room_small s.levels s.stride ws c.args.level c.args.address s.high t)
 
-pub overflow_add-self-2 : goal.overflow_add-self-2
-overflow_add-self-2 c =
+pub overflow_add-address : goal.overflow_add-address
+overflow_add-address c =
     let s = c.args.self.now in
     let ws = vec_items s.words in
     let t = taken s.levels s.stride ws c.args.level c.args.address (sym c.can_take.ensures ∙ c.if-not-can_take.false) in
@@ -52,34 +52,19 @@ invariant_of-self c =
     let n : length c.set_bit.new.words ≡ s.words.len = ap length set' ∙ length_with_bit ws (l * st) a ∙ sym s.words.ok.0 in
     let new = append_lists L st ws _ l a (sym s.words.ok.0 ∙ s.rows) s.wide t (with_items_is s.words c.set_bit.new.words n ∙ set') in
     let size = read_at length L st ws (vec_items s.sizes) l _ s.counted t.level c.index_mut.ensures.value in
-    let more : c.index_mut.result.now + 1 ≡ length (xs ++ a ∷ []) = ap (λ (m : ℕ). m + 1) size ∙ sym (length_push xs a) in (
-      s.low,
-      (
-        s.high,
-        (
-          s.wide,
-          (
-            s.narrow,
-            (
-              s.rows,
-              (
-                s.sized,
-                (
-                  s.noted,
-                  (
-                    write_at length (lists_of L st ws) _ _ (xs ++ a ∷ []) l _ s.counted new more,
-                    (
-                      write_at past_last (lists_of L st ws) _ _ (xs ++ a ∷ []) l _ s.ended new (append_next L st ws l a t),
-                      (fits_after L st ws _ l (xs ++ a ∷ []) t.level new (omega (arith, length_push xs a, t.room)) s.fits, tt),
-                    ),
-                  ),
-                ),
-              ),
-            ),
-          ),
-        ),
-      ),
-    )
+    let more : c.index_mut.result.now + 1 ≡ length (xs ++ a ∷ []) = ap (λ (m : ℕ). m + 1) size ∙ sym (length_push xs a) in
+    record {
+      low = s.low;
+      high = s.high;
+      wide = s.wide;
+      narrow = s.narrow;
+      rows = s.rows;
+      sized = s.sized;
+      noted = s.noted;
+      counted = write_at length (lists_of L st ws) _ _ (xs ++ a ∷ []) l _ s.counted new more;
+      ended = write_at past_last (lists_of L st ws) _ _ (xs ++ a ∷ []) l _ s.ended new (append_next L st ws l a t);
+      fits = fits_after L st ws _ l (xs ++ a ∷ []) t.level new (omega (arith, length_push xs a, t.room)) s.fits;
+    }
 
 pub returns : goal.returns
 returns c =

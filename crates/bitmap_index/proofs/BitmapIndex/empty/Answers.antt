@@ -26,34 +26,19 @@ invariant_of-self c =
     let h = c.if-level-self.false in
     let vs = c.clear_words.new.words in
     let n : length vs ≡ s.words.len = c.clear_words.auto.words ∙ c.deref_mut.ensures.len in
-    let new = ap (lists_of L st) (with_items_is s.words vs n) ∙ lists_clear L st ws vs l s.wide h c.clear_words.ensures.cleared (λ i o. c.clear_words.ensures.others i o ∙ ap (λ (ys : List ℕ). get_or ys i 0) c.deref_mut.ensures.value) in (
-      s.low,
-      (
-        s.high,
-        (
-          s.wide,
-          (
-            s.narrow,
-            (
-              s.rows,
-              (
-                s.sized,
-                (
-                  s.noted,
-                  (
-                    write_at length (lists_of L st ws) _ _ [] l _ s.counted new refl,
-                    (
-                      write_at past_last (lists_of L st ws) _ _ [] l _ s.ended new refl,
-                      (fits_after L st ws _ l [] h new (omega arith) s.fits, tt),
-                    ),
-                  ),
-                ),
-              ),
-            ),
-          ),
-        ),
-      ),
-    )
+    let new = ap (lists_of L st) (with_items_is s.words vs n) ∙ lists_clear L st ws vs l s.wide h c.clear_words.ensures.cleared (λ i o. c.clear_words.ensures.others i o ∙ ap (λ (ys : List ℕ). get_or ys i 0) c.deref_mut.ensures.value) in
+    record {
+      low = s.low;
+      high = s.high;
+      wide = s.wide;
+      narrow = s.narrow;
+      rows = s.rows;
+      sized = s.sized;
+      noted = s.noted;
+      counted = write_at length (lists_of L st ws) _ _ [] l _ s.counted new refl;
+      ended = write_at past_last (lists_of L st ws) _ _ [] l _ s.ended new refl;
+      fits = fits_after L st ws _ l [] h new (omega arith) s.fits;
+    }
 
 pub returns : goal.returns
 returns c =

@@ -16,7 +16,18 @@ invariant_of-result c =
     let sizes = c.in_ok-sizes.ensures.items_if_clones_equal (λ y e. e) in
     let nexts = c.in_ok-nexts.ensures.items_if_clones_equal (λ y e. e) in
     let wide' : 2 ^ L ≤ 64 * s = omega (arith, n) in
-    (low, (high, (wide', (omega (arith, n), (c.in_ok-words.ensures.len, (c.in_ok-sizes.ensures.len, (c.in_ok-nexts.ensures.len, (sizes ∙ fresh_counted L s _ _ wide' words, (nexts ∙ fresh_ended L s _ _ wide' words, (fresh_fits L s _ _ wide' words, tt))))))))))
+    record {
+      low = low;
+      high = high;
+      wide = wide';
+      narrow = omega (arith, n);
+      rows = c.in_ok-words.ensures.len;
+      sized = c.in_ok-sizes.ensures.len;
+      noted = c.in_ok-nexts.ensures.len;
+      counted = sizes ∙ fresh_counted L s _ _ wide' words;
+      ended = nexts ∙ fresh_ended L s _ _ wide' words;
+      fits = fresh_fits L s _ _ wide' words;
+    }
 
 pub returns : goal.returns
 returns c =

@@ -1,5 +1,5 @@
 use Rattle.std.proofs.Common.{vec_items, refl}
-use Rattle.gap_index.proofs.Levels.{clear_kept, clear_lists}
+use Rattle.gap_index.specs.Levels.{clear_kept, clear_lists}
 use Rattle.gap_index.proofs.Answered.{clear_refused, clear_accepted}
 use Rattle.gap_index.proofs.Fields.{lists_in, lists_number, kept}
 use Rattle.gap_index.proofs.GapIndex.empty.Goals as goal
@@ -13,7 +13,17 @@ pub invariant_of-self : goal.invariant_of-self
 invariant_of-self c =
     let s = c.args.self.now in
     let k = clear_kept s.levels (vec_items s.sizes) (vec_items s.nexts) (vec_items s.gaps) c.args.level (kept s) c.if-level-self.false in
-    (s.low, (s.high, (s.placed, (s.sized, (s.noted, (k.room, (k.positive, (k.ended, (k.inside, tt)))))))))
+    record {
+      low = s.low;
+      high = s.high;
+      placed = s.placed;
+      sized = s.sized;
+      noted = s.noted;
+      room = k.room;
+      positive = k.positive;
+      ended = k.ended;
+      inside = k.inside;
+    }
 
 pub returns : goal.returns
 returns c =

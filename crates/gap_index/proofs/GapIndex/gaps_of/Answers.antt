@@ -1,5 +1,5 @@
 use Rattle.std.proofs.Common.{◌∙◌}
-use Rattle.gap_index.proofs.Listed.{gaps_give_the_list, list_gives_the_gaps}
+use Rattle.gap_index.specs.Listed.{gaps_give_the_list, list_gives_the_gaps}
 use Rattle.gap_index.proofs.Fields.{gaps_shown, no_gaps}
 use Rattle.gap_index.proofs.GapIndex.gaps_of.Goals as goal
 

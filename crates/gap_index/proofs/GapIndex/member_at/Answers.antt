@@ -1,6 +1,6 @@
 use Rattle.std.proofs.Common.{ℕ, List, length, get_or, vec_items, sum, sym, ap, ◌∙◌, subst, inl, inr, arith}
 use Rattle.gap_index.specs.Gaps.{Positive, listed}
-use Rattle.gap_index.proofs.Levels.{size_of_gaps, sum_small, list_is}
+use Rattle.gap_index.specs.Levels.{size_of_gaps, sum_small, list_is}
 use Rattle.gap_index.proofs.Answered.{member_absent, member_present}
 use Rattle.gap_index.proofs.Fields.{lists_in, lists_number, kept, size_read, size_in}
 use Rattle.gap_index.proofs.GapIndex.member_at.Goals as goal

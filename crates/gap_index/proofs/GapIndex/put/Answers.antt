@@ -41,8 +41,8 @@ index_mut-requires c =
     let o = open_in s l c.args.address c.requires in
     omega (arith, free_place s l c.args.address c.requires, size_read s l _ o.level c.index-size.ensures, c.first_place.ensures)
 
-pub overflow_add-self : goal.overflow_add-self
-overflow_add-self c =
+pub overflow_add-size : goal.overflow_add-size
+overflow_add-size c =
     let s = c.args.self.now in
     let l = c.args.level in
     let o = open_in s l c.args.address c.requires in
@@ -54,8 +54,8 @@ index_mut-requires-2 c =
     let o = open_in s c.args.level c.args.address c.requires in
     omega (arith, o.level, s.sized)
 
-pub overflow_add-self-2 : goal.overflow_add-self-2
-overflow_add-self-2 c =
+pub overflow_add-address : goal.overflow_add-address
+overflow_add-address c =
     let s = c.args.self.now in
     omega (arith, small s c.args.level c.args.address c.requires)
 
@@ -72,7 +72,17 @@ invariant_of-self c =
     let a = c.args.address in
     let o = open_in s l a c.requires in
     let k = kept_after s l a _ _ _ c.requires (record { size_is = size_read s l _ o.level c.index-size.ensures; first_is = c.first_place.ensures; gap_is = c.gap_to-gap.ensures ∙ ap (λ (n : ℕ). a + 1 - n) (next_read s l _ o.level c.index.ensures) }) in
-    (s.low, (s.high, (s.placed, (s.sized, (s.noted, (k.room, (k.positive, (k.ended, (k.inside, tt)))))))))
+    record {
+      low = s.low;
+      high = s.high;
+      placed = s.placed;
+      sized = s.sized;
+      noted = s.noted;
+      room = k.room;
+      positive = k.positive;
+      ended = k.ended;
+      inside = k.inside;
+    }
 
 pub returns : goal.returns
 returns c =

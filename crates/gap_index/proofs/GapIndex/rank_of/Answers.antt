@@ -1,6 +1,6 @@
 use Rattle.std.proofs.Common.{ℕ, List, vec_items, sum, sym, ap, ◌∙◌, subst, arith}
 use Rattle.gap_index.specs.Gaps.{Positive, listed, rank_in}
-use Rattle.gap_index.proofs.Levels.{sum_small, list_is}
+use Rattle.gap_index.specs.Levels.{sum_small, list_is}
 use Rattle.gap_index.proofs.Answered.{rank_absent, rank_present}
 use Rattle.gap_index.proofs.Fields.{lists_in, lists_number, kept}
 use Rattle.gap_index.proofs.GapIndex.rank_of.Goals as goal

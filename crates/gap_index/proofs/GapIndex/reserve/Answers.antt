@@ -1,7 +1,7 @@
 use Rattle.std.proofs.Common.{◌≡◌, ℕ, ◌-◌, ◌^◌, leb, List, replicate, sym, ap, ◌∙◌, subst}
 use Rattle.std.proofs.lemmas.Bool.{and_parts, leb-true}
 use Rattle.gap_index.specs.Gaps.{lists_of}
-use Rattle.gap_index.proofs.Levels.{Kept, fresh_kept, fresh_lists}
+use Rattle.gap_index.specs.Levels.{Kept, fresh_kept, fresh_lists}
 use Rattle.gap_index.proofs.GapIndex.reserve.Goals as goal
 
 pub invariant_of-result : goal.invariant_of-result
@@ -14,7 +14,17 @@ invariant_of-result c =
     let nexts = c.in_ok-nexts.ensures.items_if_clones_equal (λ y e. e) in
     let start : Kept L (replicate L 0) (replicate L 0) gaps.items = fresh_kept L gaps.items (sym gaps.ok.0 ∙ n) in
     let k : Kept L c.in_ok-sizes.sizes.items c.in_ok-nexts.nexts.items gaps.items = subst (λ (xs : List ℕ). Kept L xs c.in_ok-nexts.nexts.items gaps.items) (sym sizes) (subst (λ (xs : List ℕ). Kept L (replicate L 0) xs gaps.items) (sym nexts) start) in
-    (leb-true 1 L p.0, (leb-true L 12 p.1, (n, (c.in_ok-sizes.ensures.len, (c.in_ok-nexts.ensures.len, (k.room, (k.positive, (k.ended, (k.inside, tt)))))))))
+    record {
+      low = leb-true 1 L p.0;
+      high = leb-true L 12 p.1;
+      placed = n;
+      sized = c.in_ok-sizes.ensures.len;
+      noted = c.in_ok-nexts.ensures.len;
+      room = k.room;
+      positive = k.positive;
+      ended = k.ended;
+      inside = k.inside;
+    }
 
 pub returns : goal.returns
 returns c =

@@ -1,6 +1,6 @@
 use Rattle.std.proofs.Common.{ℕ, ◌+◌, ◌-◌, List, get_or, take, drop, vec_items, ap, ◌∙◌, arith}
 use Rattle.gap_index.specs.Gaps.{gaps_at}
-use Rattle.gap_index.proofs.Levels.{gaps_inside}
+use Rattle.gap_index.specs.Levels.{gaps_inside}
 use Rattle.gap_index.proofs.Fields.{kept, size_read}
 use Rattle.gap_index.proofs.GapIndex.row_of.Goals as goal
 

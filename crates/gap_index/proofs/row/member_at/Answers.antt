@@ -1,5 +1,5 @@
 use Rattle.std.proofs.Common.{◌≡◌, ℕ, ◌+◌, ◌-◌, take, sum, sym, ap, ◌∙◌, arith}
-use Rattle.gap_index.proofs.Listed.{sum_more, sum_front, member_is}
+use Rattle.gap_index.specs.Listed.{sum_more, sum_front, member_is}
 use Rattle.gap_index.proofs.row.member_at.Goals as goal
 
 pub total-requires : goal.total-requires

@@ -1,6 +1,6 @@
 use Rattle.std.proofs.Common.{◌≡◌, ◌+◌, take, sum, ap, arith}
 use Rattle.std.proofs.lemmas.List.{take_all}
-use Rattle.gap_index.proofs.Listed.{length_le_sum, sum_more, sum_front, rank_here, rank_between, rank_after}
+use Rattle.gap_index.specs.Listed.{length_le_sum, sum_more, sum_front, rank_here, rank_between, rank_after}
 use Rattle.gap_index.proofs.row.rank_of.Goals as goal
 
 pub overflow_add-next : goal.overflow_add-next

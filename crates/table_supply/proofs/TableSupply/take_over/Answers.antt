@@ -13,4 +13,12 @@ invariant_of-result c =
     let made = c.in-Ok.ensures in
     let right : RightTable L K slots = subst (λ (xs : List ℕ). RightTable L K xs) same made.1 in
     let inverse' : Inverse L slots K (vec_items c.in-Ok.indices) = subst (λ (xs : List ℕ). Inverse L xs K (vec_items c.in-Ok.indices)) same made.3 in
-    (levels_low L made.0, (levels_high L made.0, (ap (right_size L K) c.args.slots.ok.0 ∙ right.sized, (permuted_below L slots K right.permuted, (permuted_found L slots K right.permuted, (made.2, (inverse', tt)))))))
+    record {
+      low = levels_low L made.0;
+      high = levels_high L made.0;
+      sized = ap (right_size L K) c.args.slots.ok.0 ∙ right.sized;
+      below = permuted_below L slots K right.permuted;
+      found = permuted_found L slots K right.permuted;
+      beside = made.2;
+      inverse = inverse';
+    }

@@ -5,7 +5,7 @@ use Rattle.std.proofs.lemmas.List.{length-set, get_or-take, get_or-drop, get_or-
 use Rattle.std.proofs.lemmas.Bool.{cases_eq, cases_order, cases_lt}
 use Rattle.index.specs.Lists.{list_at, Lawful}
 use Rattle.gap_index.specs.Gaps.{Positive, listed_from, listed, gaps_at, lists_of}
-use Rattle.gap_index.proofs.Listed.{length_listed, listed_rises, member_below, listed_push, sum_push}
+use Rattle.gap_index.specs.Listed.{length_listed, listed_rises, member_below, listed_push, sum_push}
 
 -- ---- places
 
