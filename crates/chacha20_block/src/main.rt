@@ -2,9 +2,9 @@
 // Arguments: the path of a file of 32 bytes, the counter, and the three words of the nonce, as decimal numbers.
 #![tactic(auto)]
 
-use anyhow::anyhow;
 use chacha20::block;
 use chacha20::key::Key;
+use std::process::ExitCode;
 use std::{env, fs, io};
 
 // What is wrong with the input.
@@ -93,18 +93,21 @@ fn print_fault(rt: &HostRuntime, fault: Fault) -> io::Result<()> {
     }
 }
 
-fn run(rt: &HostRuntime) -> anyhow::Result<()> {
+fn run(rt: &HostRuntime) -> io::Result<ExitCode> {
     let fault = match read_job(rt) {
         Ok(job) => match make_block(&job) {
-            Ok(words) => return Ok(print_block(rt, &words)?),
+            Ok(words) => {
+                print_block(rt, &words)?;
+                return Ok(ExitCode::SUCCESS);
+            }
             Err(fault) => fault,
         },
         Err(fault) => fault,
     };
     print_fault(rt, fault)?;
-    Err(anyhow!("no block was printed"))
+    Ok(ExitCode::FAILURE)
 }
 
-fn main(rt: HostRuntime) -> anyhow::Result<()> {
+fn main(rt: HostRuntime) -> io::Result<ExitCode> {
     run(&rt)
 }

@@ -5,13 +5,13 @@
 
 ghost use Rattle.std.specs.Prelude.{◌<◌, ◌≤◌};
 
-use anyhow::anyhow;
 use bitmap_index::BitmapIndex;
 use gap_index::GapIndex;
 use index::Index;
 use shape::make_error::MakeError;
 use shape::refusal::Refusal;
 use std::alloc::{AllocError, Global};
+use std::process::ExitCode;
 use std::{env, io};
 
 // What is wrong with the input.
@@ -213,16 +213,19 @@ fn print_fault(rt: &HostRuntime, fault: Fault) -> io::Result<()> {
     }
 }
 
-fn run(rt: &HostRuntime) -> anyhow::Result<()> {
+fn run(rt: &HostRuntime) -> io::Result<ExitCode> {
     match answer(rt) {
-        Ok(checksum) => Ok(println!(rt; "checksum {checksum:016x}")?),
+        Ok(checksum) => {
+            println!(rt; "checksum {checksum:016x}")?;
+            Ok(ExitCode::SUCCESS)
+        }
         Err(fault) => {
             print_fault(rt, fault)?;
-            Err(anyhow!("nothing was asked"))
+            Ok(ExitCode::FAILURE)
         }
     }
 }
 
-fn main(rt: HostRuntime) -> anyhow::Result<()> {
+fn main(rt: HostRuntime) -> io::Result<ExitCode> {
     run(&rt)
 }

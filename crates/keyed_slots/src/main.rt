@@ -2,10 +2,10 @@
 // Arguments: the path of a file of 32 bytes, L, the build, and one index or more.
 #![tactic(auto)]
 
-use anyhow::anyhow;
 use keyed_supply::keyed::KeyedSupply;
 use shape::refusal::Refusal;
 use std::alloc::Global;
+use std::process::ExitCode;
 use std::{env, fs, io};
 use supply::supply::Supply;
 
@@ -137,18 +137,21 @@ fn print_fault(rt: &HostRuntime, fault: Fault) -> io::Result<()> {
     }
 }
 
-fn run(rt: &HostRuntime) -> anyhow::Result<()> {
+fn run(rt: &HostRuntime) -> io::Result<ExitCode> {
     let fault = match read_job(rt) {
         Ok(job) => match follow_all(rt.alloc(), &job) {
-            Ok(ways) => return Ok(print_ways(rt, ways.as_slice())?),
+            Ok(ways) => {
+                print_ways(rt, ways.as_slice())?;
+                return Ok(ExitCode::SUCCESS);
+            }
             Err(fault) => fault,
         },
         Err(fault) => fault,
     };
     print_fault(rt, fault)?;
-    Err(anyhow!("no slot was printed"))
+    Ok(ExitCode::FAILURE)
 }
 
-fn main(rt: HostRuntime) -> anyhow::Result<()> {
+fn main(rt: HostRuntime) -> io::Result<ExitCode> {
     run(&rt)
 }

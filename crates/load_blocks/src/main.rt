@@ -2,7 +2,6 @@
 // Arguments: L, W, and the path of a file of 2^L * W bytes.
 #![tactic(auto)]
 
-use anyhow::anyhow;
 use bitmap_index::BitmapIndex;
 use joined_store::{JoinedStore, Unjoined};
 use memory_store::MemoryStore;
@@ -13,6 +12,7 @@ use shape::make_error::MakeError;
 use shape::places;
 use shape::refusal::Refusal;
 use std::alloc::Global;
+use std::process::ExitCode;
 use std::{env, fs, io};
 use store::entry::Entry;
 use supply::straight::Straight;
@@ -240,18 +240,21 @@ fn print_fault(rt: &HostRuntime, fault: Fault) -> io::Result<()> {
     }
 }
 
-fn run(rt: &HostRuntime) -> anyhow::Result<()> {
+fn run(rt: &HostRuntime) -> io::Result<ExitCode> {
     let fault = match read_job(rt) {
         Ok(job) => match load(rt.alloc(), &job) {
-            Ok(report) => return Ok(print_report(rt, job.levels, job.width, &report)?),
+            Ok(report) => {
+                print_report(rt, job.levels, job.width, &report)?;
+                return Ok(ExitCode::SUCCESS);
+            }
             Err(fault) => fault,
         },
         Err(fault) => fault,
     };
     print_fault(rt, fault)?;
-    Err(anyhow!("nothing was loaded"))
+    Ok(ExitCode::FAILURE)
 }
 
-fn main(rt: HostRuntime) -> anyhow::Result<()> {
+fn main(rt: HostRuntime) -> io::Result<ExitCode> {
     run(&rt)
 }
