@@ -6,7 +6,7 @@ function refusal(n) { return NAMES[n] }
 # ends the answer that is being read
 function close_answer() { if (open_answer) { answers[++answer_count] = "accepted " bytes " " (entries == "" ? "[]" : "(" entries "[])"); open_answer = 0 } }
 function several(name, type, items, count,   i) {
-    printf "\nabbrev pub %s-%d : List %s\n%s-%d =", name, run, type, name, run
+    printf "\nabbrev pub %s_%d : List %s\n%s_%d =", name, run, type, name, run
     for (i = 1; i <= count; i++) printf "\n    %s ∷", items[i]
     printf count ? " []\n" : " []\n"
 }
@@ -23,34 +23,34 @@ $1 == "access" { close_answer(); calls[++call_count] = "access " ($2 - 1) / 2 " 
 $1 == "rebuild" { close_answer(); calls[++call_count] = "rebuild " ($2 - 2) / 2 " " $3 }
 $1 == "accepted" { open_answer = 1; bytes = "[]"; entries = "" }
 $1 == "bytes" { bytes = numbers(2) }
-$1 == "entry" { entries = entries "entry-of " bool($2) " " bool($3) " " $4 " ∷ " }
+$1 == "entry" { entries = entries "entry_of " bool($2) " " bool($3) " " $4 " ∷ " }
 $1 == "declined" { answers[++answer_count] = "declined " refusal($2) }
-$1 == "slot" { close_answer(); slots[++slot_count] = "block-slot " $3 " " numbers(4) }
+$1 == "slot" { close_answer(); slots[++slot_count] = "block_slot " $3 " " numbers(4) }
 $1 == "record" { level = $2; occupied[level] = $3; counter[level] = $5; build[level] = $6; level_count = level + 1 }
 $1 == "list" { members[$2] = numbers(3) }
 $1 == "number" { number = $2 }
 $1 == "end" {
     close_answer()
     printf "\n-- run %d: L = %d, W = %d\n", run, L, W
-    printf "abbrev pub parts-%d : Parts\n", run
-    printf "parts-%d = record {\n  store-width = %d;\n  store-slots = replicate %d (block-slot 0 (replicate %d 0));\n  index-lists = %s;\n  supply-top = %d;\n}\n",
+    printf "abbrev pub parts_%d : Parts\n", run
+    printf "parts_%d = record {\n  store_width = %d;\n  store_slots = replicate %d (block_slot 0 (replicate %d 0));\n  index_lists = %s;\n  supply_top = %d;\n}\n",
         run, width, places, width, empty == 1 ? "replicate " index_levels " []" : "(0 ∷ []) ∷ replicate " index_levels - 1 " []", top
     several("tables", "(List ℕ)", tables, table_count)
     several("calls", "Call", calls, call_count)
     several("answers", "Answer", answers, answer_count)
     several("slots", "Slot", slots, slot_count)
-    printf "\nabbrev pub levels-%d : List Level\nlevels-%d =", run, run
+    printf "\nabbrev pub levels_%d : List Level\nlevels_%d =", run, run
     if (level_count == 0) printf " replicate %d vacant\n", L + 1
     else {
         for (i = 0; i < level_count; i++)
             printf "\n    record { occupied = %s; members = %s; counter = %d; build = %d } ∷", bool(occupied[i]),
-                i < L ? members[i] : (occupied[i] == 1 ? "counting 0 " 2 ^ L : "[]"), counter[i], build[i]
+                i < L ? members[i] : (occupied[i] == 1 ? "range_with_len 0 " 2 ^ L : "[]"), counter[i], build[i]
         printf " []\n"
     }
-    printf "\nabbrev pub Run-%d : Type 0\nRun-%d = Agrees %d %d parts-%d tables-%d calls-%d (%s) answers-%d slots-%d levels-%d %d\n",
+    printf "\nabbrev pub Run%d : Type 0\nRun%d = Agrees %d %d parts_%d tables_%d calls_%d (%s) answers_%d slots_%d levels_%d %d\n",
         run, run, L, W, run, run, run, opened, run, run, run, number
 }
 END {
-    printf "\n-- all of them\npub record All-agree : Type 0 where\n"
-    for (i = 1; i <= runs; i++) printf "  pub run-%d : Run-%d\n", names[i], names[i]
+    printf "\n-- all of them\npub record AllAgree : Type 0 where\n"
+    for (i = 1; i <= runs; i++) printf "  pub run_%d : Run%d\n", names[i], names[i]
 }

@@ -1,7 +1,7 @@
 -- The members of a row, word by word: how many lie below an address, and which stands at a position.
 use Rattle.std.proofs.Common.{◌≡◌, ℕ, zero, suc, ◌+◌, ◌-◌, ◌*◌, ◌/◌, ◌%◌, ◌^◌, ◌<◌, ◌≤◌, Bool, true, false, cond, ◌⊎◌, List, ◌∷◌, ◌++◌, map, length, get_or, filter, sym, refl, ap, ◌∙◌, inl, inr, mod-eq_of_lt, arith}
 use lib.Count.{ones}
-use Rattle.std.specs.List.{range_with_len, AllByRecursion as All}
+use Rattle.std.specs.List.{range_with_len, AllByRecursion}
 use Rattle.std.proofs.lemmas.List.{length-append, length-map, get_or_append_left, get_or-append-add, get_or-map}
 use Rattle.std.proofs.ByRecursion.{All-get_or}
 use Rattle.std.proofs.lemmas.Bool.{cases_eq}
@@ -98,7 +98,7 @@ word_inside ws i left p e h l = go (cases_eq i (length ws))
     go (inl f) = absurd (omega (arith, e, h, ap (λ (j : ℕ). length (members (64 * j) ws)) f))
     go (inr f) = omega arith
 
-places_within : (w : ℕ) → All (Within 0 64) (places_of w)
+places_within : (w : ℕ) → AllByRecursion (Within 0 64) (places_of w)
 unfolding places_of
 places_within w = kept_within (word_bit w) 0 64
 

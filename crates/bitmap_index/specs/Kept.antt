@@ -1,7 +1,7 @@
 -- A filter of consecutive addresses: it rises, and what it has, what lies below and what a new address adds are told by the test.
 use Rattle.std.specs.Prelude.{◌≡◌, ℕ, zero, suc, ◌+◌, ◌-◌, ◌<◌, ◌≤◌, max, Bool, true, false, cond, ◌&&◌, ◌≢◌, ◌⊎◌, List, [], ◌∷◌, ◌++◌, map, length, filter, ◌==◌, nat_le, nat_lt, slice_index, refl}
 use Rattle.std.proofs.Common.{inl, inr, sym, ap, ◌∙◌, suc-add, zero-add, arith}
-use Rattle.std.specs.List.{range_with_len, AllByRecursion as All}
+use Rattle.std.specs.List.{range_with_len, AllByRecursion}
 use Rattle.std.proofs.lemmas.List.FromFn.{length-range_with_len, get_or-range_with_len}
 use Rattle.std.proofs.lemmas.List.Elements.{filter-append}
 use Rattle.std.proofs.ByRecursion.{All-from_get_or, All-get_or, all_kept_by, All-weaker}
@@ -26,7 +26,7 @@ kept_split p a n m = ap (filter p) (counting_split a n m) ∙ filter-append p (r
 abbrev pub Within : ℕ → ℕ → ℕ → Type 0
 Within a n x = (a ≤ x) × (x < a + n)
 
-pub kept_within : (p : ℕ → Bool) (a n : ℕ) → All (Within a n) (filter p (range_with_len a n))
+pub kept_within : (p : ℕ → Bool) (a n : ℕ) → AllByRecursion (Within a n) (filter p (range_with_len a n))
 kept_within p a n = all_kept_by p (Within a n) (range_with_len a n) (All-from_get_or (Within a n) (range_with_len a n) 0 inside)
   where
     inside : (i : ℕ) → i < length (range_with_len a n) → Within a n (slice_index (range_with_len a n) i)
@@ -60,7 +60,7 @@ kept_shift p a b (suc n) =
 
 -- ---- a filter rises
 
-rising_cons : (x : ℕ) (xs : List ℕ) → All (λ y. x < y) xs → Rising xs → Rising (x ∷ xs)
+rising_cons : (x : ℕ) (xs : List ℕ) → AllByRecursion (λ y. x < y) xs → Rising xs → Rising (x ∷ xs)
 rising_cons x xs more rises zero zero h l = omega arith
 rising_cons x xs more rises zero (suc j) h l = All-get_or (λ y. x < y) xs j 0 (omega arith) more
 rising_cons x xs more rises (suc i) zero h l = omega arith
@@ -78,7 +78,7 @@ kept_rises p a (suc n) = by (kept_rises p (a + 1) n) (p a)
 
 -- ---- what it has
 
-has_none : (xs : List ℕ) (x : ℕ) → All (λ y. y ≢ x) xs → has xs x ≡ false
+has_none : (xs : List ℕ) (x : ℕ) → AllByRecursion (λ y. y ≢ x) xs → has xs x ≡ false
 has_none [] x h = refl
 has_none (y ∷ ys) x h = rw (ne_eqb y x h.0) (has_none ys x h.1)
 
@@ -108,11 +108,11 @@ smaller_append : (xs ys : List ℕ) (a : ℕ) → smaller (xs ++ ys) a ≡ small
 smaller_append [] ys a = omega arith
 smaller_append (x ∷ xs) ys a = omega (arith, smaller_append xs ys a)
 
-smaller_all : (xs : List ℕ) (a : ℕ) → All (λ y. y < a) xs → smaller xs a ≡ length xs
+smaller_all : (xs : List ℕ) (a : ℕ) → AllByRecursion (λ y. y < a) xs → smaller xs a ≡ length xs
 smaller_all [] a h = refl
 smaller_all (x ∷ xs) a h = rw (lt-ltb x a h.0) (omega (arith, smaller_all xs a h.1))
 
-smaller_none : (xs : List ℕ) (a : ℕ) → All (λ y. a ≤ y) xs → smaller xs a ≡ 0
+smaller_none : (xs : List ℕ) (a : ℕ) → AllByRecursion (λ y. a ≤ y) xs → smaller xs a ≡ 0
 smaller_none [] a h = refl
 smaller_none (x ∷ xs) a h = rw (le-ltb x a h.0) (omega (arith, smaller_none xs a h.1))
 

@@ -1,6 +1,6 @@
 -- What an access asks, level by level: one ask of every occupied level, of that level's build.
 use Rattle.std.proofs.Common.{◌≡◌, ℕ, zero, suc, ◌+◌, ◌*◌, ◌/◌, ◌%◌, ◌^◌, ◌<◌, ◌≤◌, Bool, true, false, cond, ◌||◌, eqb, ◌⊎◌, List, [], ◌∷◌, ◌++◌, map, get_or, filter, Option, sym, refl, ap, ◌∙◌, subst, ap₂, inl, inr, add-zero, arith}
-use Rattle.std.specs.List.{range_with_len, AllByRecursion as All}
+use Rattle.std.specs.List.{range_with_len, AllByRecursion}
 use Rattle.std.proofs.ByRecursion.{All-weaker}
 use Rattle.std.proofs.lemmas.Bool.{cases_Bool, cond-true, cond-false, eq-eqb, ne_eqb}
 use Rattle.shape.specs.Numbers.{level_start, level_of_build}
@@ -32,9 +32,9 @@ asks_vacant found a l v vs e = cond-false v.occupied _ _ e
 
 abbrev pub RisingLevels : List Ask → Type 0
 RisingLevels [] = Unit {0}
-RisingLevels (q ∷ qs) = All (λ p. q.level < p.level) qs × RisingLevels qs
+RisingLevels (q ∷ qs) = AllByRecursion (λ p. q.level < p.level) qs × RisingLevels qs
 
-pub levels_from : (found : Bool) (a l : ℕ) (vs : List Level) → All (λ q. l ≤ q.level) (asks_from found a l vs)
+pub levels_from : (found : Bool) (a l : ℕ) (vs : List Level) → AllByRecursion (λ q. l ≤ q.level) (asks_from found a l vs)
 levels_from found a l [] = tt
 levels_from found a l (v ∷ vs) =
     by (All-weaker (λ (q : Ask). suc l ≤ q.level) (λ q. l ≤ q.level) (λ q h. omega arith) _ (levels_from (found || finds found a v) a (suc l) vs)) (cases_Bool v.occupied)
@@ -42,9 +42,9 @@ levels_from found a l (v ∷ vs) =
     rest : List Ask
     rest = asks_from (found || finds found a v) a (suc l) vs
 
-    by : All (λ q. l ≤ q.level) rest → (v.occupied ≡ true) ⊎ (v.occupied ≡ false) → All (λ q. l ≤ q.level) (asks_from found a l (v ∷ vs))
-    by h (inl e) = subst (All (λ q. l ≤ q.level)) (sym (asks_occupied found a l v vs e)) (omega arith, h)
-    by h (inr e) = subst (All (λ q. l ≤ q.level)) (sym (asks_vacant found a l v vs e)) h
+    by : AllByRecursion (λ q. l ≤ q.level) rest → (v.occupied ≡ true) ⊎ (v.occupied ≡ false) → AllByRecursion (λ q. l ≤ q.level) (asks_from found a l (v ∷ vs))
+    by h (inl e) = subst (AllByRecursion (λ q. l ≤ q.level)) (sym (asks_occupied found a l v vs e)) (omega arith, h)
+    by h (inr e) = subst (AllByRecursion (λ q. l ≤ q.level)) (sym (asks_vacant found a l v vs e)) h
 
 pub levels_rise : (found : Bool) (a l : ℕ) (vs : List Level) → RisingLevels (asks_from found a l vs)
 levels_rise found a l [] = tt
@@ -60,7 +60,7 @@ abbrev pub slot_asked : List (List ℕ) → List Ask → ℕ → ℕ
 slot_asked ts [] l = 0
 slot_asked ts (q ∷ qs) l = cond (eqb q.level l) (slot_of ts q.build q.index) (slot_asked ts qs l)
 
-later_levels : (ts : List (List ℕ)) (q : Ask) (qs ps : List Ask) → All (λ p. q.level < p.level) ps →
+later_levels : (ts : List (List ℕ)) (q : Ask) (qs ps : List Ask) → AllByRecursion (λ p. q.level < p.level) ps →
     map (λ l. level_start l + slot_asked ts (q ∷ qs) l) (map (λ p. p.level) ps) ≡ map (λ l. level_start l + slot_asked ts qs l) (map (λ p. p.level) ps)
 later_levels ts q qs [] h = refl
 later_levels ts q qs (p ∷ ps) h =
@@ -118,31 +118,31 @@ module _ (L t : ℕ) (h : Option ℕ) (s : List (Act Mark)) where
 
   -- the build that is asked goes to the level that is asked
   pub asked_builds : (more l q : ℕ) (lower vs : List Level) (found : Bool) (a : ℕ) → L ≡ l + more →
-      Fits L t h s more l q lower vs → All (λ p. level_of_build L p.build ≡ p.level) (asks_from found a l vs)
+      Fits L t h s more l q lower vs → AllByRecursion (λ p. level_of_build L p.build ≡ p.level) (asks_from found a l vs)
   asked_builds zero l q lower [] found a e fits = absurd fits
   asked_builds zero l q lower (v ∷ vs) found a e fits =
       let top : L ≡ l = e ∙ add-zero l in
       let here : level_of_build L v.build ≡ l = ap (level_of_build L) fits.1 ∙ ap (λ i. level_of_build L (q * 2 ^ i)) (sym top) ∙ level_highest L q ∙ top in
-      subst (All (λ p. level_of_build L p.build ≡ p.level))
+      subst (AllByRecursion (λ p. level_of_build L p.build ≡ p.level))
       (sym (asks_occupied found a l v vs fits.0.occupied ∙ ap (λ us. ask_of found a l v ∷ asks_from (found || finds found a v) a (suc l) us) fits.3))
       (here, tt)
   asked_builds (suc more) l q lower [] found a e fits = absurd fits
   asked_builds (suc more) l q lower (v ∷ vs) found a e fits =
       by (asked_builds more (suc l) (q / 2) (lower ++ (v ∷ [])) vs (found || finds found a v) a (omega arith) fits.1) (odd_or_even q)
     where
-      by : All (λ p. level_of_build L p.build ≡ p.level) (asks_from (found || finds found a v) a (suc l) vs) →
-          (q % 2 ≡ 1) ⊎ (q % 2 ≡ 0) → All (λ p. level_of_build L p.build ≡ p.level) (asks_from found a l (v ∷ vs))
+      by : AllByRecursion (λ p. level_of_build L p.build ≡ p.level) (asks_from (found || finds found a v) a (suc l) vs) →
+          (q % 2 ≡ 1) ⊎ (q % 2 ≡ 0) → AllByRecursion (λ p. level_of_build L p.build ≡ p.level) (asks_from found a l (v ∷ vs))
       by up (inl odd) =
           let used = odd_part L t l q h s lower v odd fits.0 in
-          subst (All (λ p. level_of_build L p.build ≡ p.level)) (sym (asks_occupied found a l v vs used.0.occupied))
+          subst (AllByRecursion (λ p. level_of_build L p.build ≡ p.level)) (sym (asks_occupied found a l v vs used.0.occupied))
           (ap (level_of_build L) used.1 ∙ level_below L l q (omega arith) odd, up)
       by up (inr even) =
           let empty = even_part L t l q h s lower v even fits.0 in
-          subst (All (λ p. level_of_build L p.build ≡ p.level)) (sym (asks_vacant found a l v vs (ap (λ u. u.occupied) empty))) up
+          subst (AllByRecursion (λ p. level_of_build L p.build ≡ p.level)) (sym (asks_vacant found a l v vs (ap (λ u. u.occupied) empty))) up
 
 -- a level that is asked is occupied, and it is its build that is asked
 pub asked_of_level : (all : List Level) (found : Bool) (a l : ℕ) (vs : List Level) → ((i : ℕ) → get_or all (l + i) vacant ≡ get_or vs i vacant) →
-    All (λ p. ((get_or all p.level vacant).occupied ≡ true) × ((get_or all p.level vacant).build ≡ p.build)) (asks_from found a l vs)
+    AllByRecursion (λ p. ((get_or all p.level vacant).occupied ≡ true) × ((get_or all p.level vacant).build ≡ p.build)) (asks_from found a l vs)
 asked_of_level all found a l [] same = tt
 asked_of_level all found a l (v ∷ vs) same =
     by (asked_of_level all (found || finds found a v) a (suc l) vs (λ i. ap (λ j. get_or all j vacant) (omega arith) ∙ same (suc i))) (cases_Bool v.occupied)
@@ -153,6 +153,6 @@ asked_of_level all found a l (v ∷ vs) same =
     P : Ask → Type 0
     P p = ((get_or all p.level vacant).occupied ≡ true) × ((get_or all p.level vacant).build ≡ p.build)
 
-    by : All P (asks_from (found || finds found a v) a (suc l) vs) → (v.occupied ≡ true) ⊎ (v.occupied ≡ false) → All P (asks_from found a l (v ∷ vs))
-    by up (inl e) = subst (All P) (sym (asks_occupied found a l v vs e)) ((ap (λ u. u.occupied) here ∙ e, ap (λ u. u.build) here), up)
-    by up (inr e) = subst (All P) (sym (asks_vacant found a l v vs e)) up
+    by : AllByRecursion P (asks_from (found || finds found a v) a (suc l) vs) → (v.occupied ≡ true) ⊎ (v.occupied ≡ false) → AllByRecursion P (asks_from found a l (v ∷ vs))
+    by up (inl e) = subst (AllByRecursion P) (sym (asks_occupied found a l v vs e)) ((ap (λ u. u.occupied) here ∙ e, ap (λ u. u.build) here), up)
+    by up (inr e) = subst (AllByRecursion P) (sym (asks_vacant found a l v vs e)) up

@@ -1,6 +1,6 @@
 -- How many slots have an index that was asked, and how many have not.
 use Rattle.std.proofs.Common.{◌≡◌, ℕ, zero, suc, ◌+◌, ◌<◌, ◌≤◌, Bool, true, false, cond, not, ◌||◌, eqb, ◌⊎◌, List, [], ◌∷◌, length, filter, sym, refl, ap, ◌∙◌, subst, ap₂, inl, inr, arith}
-use Rattle.std.specs.List.{range_with_len, AllByRecursion as All}
+use Rattle.std.specs.List.{range_with_len, AllByRecursion}
 use Rattle.std.proofs.lemmas.List.FromFn.{length-range_with_len}
 use Rattle.std.proofs.lemmas.List.Filters.{length-filter_both}
 use Rattle.std.proofs.lemmas.Bool.{cases_eq, eq-eqb, ne_eqb, eqb-true, cond-true, cond-false}
@@ -10,22 +10,22 @@ use Rattle.permutations.specs.Choices.{slot_in}
 use Rattle.permutations.proofs.AskedSlots.{slot_is}
 
 -- numbers counted from a are a to a + n
-pub counted_within : (a n : ℕ) → All (λ x. (a ≤ x) × (x < a + n)) (range_with_len a n)
+pub counted_within : (a n : ℕ) → AllByRecursion (λ x. (a ≤ x) × (x < a + n)) (range_with_len a n)
 counted_within a n = from a n (λ x. (a ≤ x) × (x < a + n)) (λ x l h. (l, h))
   where
-    from : (b n : ℕ) (P : ℕ → Type 0) → ((x : ℕ) → b ≤ x → x < b + n → P x) → All P (range_with_len b n)
+    from : (b n : ℕ) (P : ℕ → Type 0) → ((x : ℕ) → b ≤ x → x < b + n → P x) → AllByRecursion P (range_with_len b n)
     from b zero P h = tt
     from b (suc n) P h = (h b (omega arith) (omega arith), from (b + 1) n P (λ x l k. h x (omega arith) (omega arith)))
 
-pub counted_below : (n : ℕ) → All (λ x. x < n) (range_with_len 0 n)
+pub counted_below : (n : ℕ) → AllByRecursion (λ x. x < n) (range_with_len 0 n)
 counted_below n = weaker (range_with_len 0 n) (counted_within 0 n)
   where
-    weaker : (xs : List ℕ) → All (λ x. (0 ≤ x) × (x < 0 + n)) xs → All (λ x. x < n) xs
+    weaker : (xs : List ℕ) → AllByRecursion (λ x. (0 ≤ x) × (x < 0 + n)) xs → AllByRecursion (λ x. x < n) xs
     weaker [] h = tt
     weaker (x ∷ xs) h = (omega (arith, h.0.1), weaker xs h.1)
 
 -- tests that agree keep the same
-pub kept_alike : (P : ℕ → Type 0) (f g : ℕ → Bool) → ((x : ℕ) → P x → f x ≡ g x) → (xs : List ℕ) → All P xs → filter f xs ≡ filter g xs
+pub kept_alike : (P : ℕ → Type 0) (f g : ℕ → Bool) → ((x : ℕ) → P x → f x ≡ g x) → (xs : List ℕ) → AllByRecursion P xs → filter f xs ≡ filter g xs
 kept_alike P f g same [] h = refl
 kept_alike P f g same (x ∷ xs) h =
     ap₂ (λ (b : Bool) (r : List ℕ). cond b (x ∷ r) r) (same x h.0) (kept_alike P f g same xs h.1)
@@ -71,7 +71,7 @@ count_one c a (suc n) l h = by (λ low. count_one c (a + 1) n low (omega arith))
         ap length (cond-false (eqb c a) (a ∷ rest) rest (ne_eqb c a e)) ∙ later (omega (arith, e))
 
 -- as many slots have an asked index as indexes were asked
-pub count_asked : (n : ℕ) (p : List ℕ) → IsPermutation n p → (is : List ℕ) → All (λ i. i < n) is → Apart is →
+pub count_asked : (n : ℕ) (p : List ℕ) → IsPermutation n p → (is : List ℕ) → AllByRecursion (λ i. i < n) is → Apart is →
     length (filter (λ s. among is (position p s)) (range_with_len 0 n)) ≡ length is
 count_asked n p perm [] below apart = count_none (range_with_len 0 n)
 count_asked n p perm (i ∷ is) below apart =
@@ -86,7 +86,7 @@ count_asked n p perm (i ∷ is) below apart =
         ap length (kept_alike (λ s. Unit {0}) (λ s. eqb i (position p s)) (λ s. eqb (slot_in p i) s) (λ s u. sym (slot_is n p perm s i below.0)) (range_with_len 0 n) (all (range_with_len 0 n)))
         ∙ count_one (slot_in p i) 0 n (omega arith) (omega (arith, perm.below i below.0))
       where
-        all : (xs : List ℕ) → All (λ s. Unit {0}) xs
+        all : (xs : List ℕ) → AllByRecursion (λ s. Unit {0}) xs
         all [] = tt
         all (x ∷ xs) = (tt, all xs)
 

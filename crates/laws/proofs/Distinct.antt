@@ -1,6 +1,6 @@
 -- Lists in which no number stands twice: filtered, mapped, one after another; and how long they can be.
 use Rattle.std.proofs.Common.{◌≡◌, ℕ, zero, suc, ◌+◌, ◌<◌, ◌≤◌, Bool, true, false, eqb, ◌⊎◌, List, [], ◌∷◌, ◌++◌, map, length, get_or, filter, sym, refl, ap, ◌∙◌, subst, inl, inr, ⊎_elim, arith}
-use Rattle.std.specs.List.{range_with_len, AllByRecursion as All}
+use Rattle.std.specs.List.{range_with_len, AllByRecursion}
 use Rattle.std.proofs.lemmas.List.FromFn.{length-range_with_len, get_or-range_with_len}
 use Rattle.std.proofs.lemmas.Bool.{cases_Bool, eq-eqb, eqb-true, cond-true, cond-false, or_cases, or_left, or_right, both_ways, false≢true}
 use Rattle.permutations.specs.Tables.{IsPermutation, position}
@@ -19,11 +19,11 @@ among_stands xs x h = has_stands xs x (sym (among_is_has xs x) ∙ h)
 pub stands_among : (xs : List ℕ) (i : ℕ) → i < length xs → among xs (get_or xs i 0) ≡ true
 stands_among xs i l = among_is_has xs (get_or xs i 0) ∙ stands_has xs i l
 
-pub all_among : (P : ℕ → Type 0) (xs : List ℕ) → All P xs → (x : ℕ) → among xs x ≡ true → P x
+pub all_among : (P : ℕ → Type 0) (xs : List ℕ) → AllByRecursion P xs → (x : ℕ) → among xs x ≡ true → P x
 all_among P [] h x e = absurd (false≢true e)
 all_among P (y ∷ ys) h x e = ⊎_elim (λ f. subst P (eqb-true y x f) h.0) (all_among P ys h.1 x) (or_cases (eqb y x) (among ys x) e)
 
-pub among_all : (P : ℕ → Type 0) (xs : List ℕ) → ((x : ℕ) → among xs x ≡ true → P x) → All P xs
+pub among_all : (P : ℕ → Type 0) (xs : List ℕ) → ((x : ℕ) → among xs x ≡ true → P x) → AllByRecursion P xs
 among_all P [] h = tt
 among_all P (y ∷ ys) h = (h y (or_left (eqb y y) (among ys y) (eq-eqb y y refl)), among_all P ys (λ x e. h x (or_right (eqb y x) (among ys x) e)))
 
@@ -108,7 +108,7 @@ image_among f (y ∷ ys) x h =
     ⊎_elim (λ e. or_left (eqb (f y) (f x)) (among (map f ys) (f x)) (eq-eqb (f y) (f x) (ap f (eqb-true y x e))))
     (λ e. or_right (eqb (f y) (f x)) (among (map f ys) (f x)) (image_among f ys x e)) (or_cases (eqb y x) (among ys x) h)
 
-pub apart_image : (f : ℕ → ℕ) (P : ℕ → Type 0) → ((x y : ℕ) → P x → P y → f x ≡ f y → x ≡ y) → (xs : List ℕ) → All P xs → Apart xs → Apart (map f xs)
+pub apart_image : (f : ℕ → ℕ) (P : ℕ → Type 0) → ((x y : ℕ) → P x → P y → f x ≡ f y → x ≡ y) → (xs : List ℕ) → AllByRecursion P xs → Apart xs → Apart (map f xs)
 apart_image f P one [] h k = tt
 apart_image f P one (x ∷ xs) h k = (absent (map f xs) (f x) there, apart_image f P one xs h.1 k.1)
   where
@@ -166,7 +166,7 @@ no_longer xs ys one there =
     stands i l = position_stands ys (get_or xs i 0) (position_of_member ys (get_or xs i 0) (there i l))
 
 -- n different numbers below n are all the numbers below n
-pub indexes_onto : (n : ℕ) (xs : List ℕ) → length xs ≡ n → All (λ x. x < n) xs → Apart xs → IsPermutation n xs
+pub indexes_onto : (n : ℕ) (xs : List ℕ) → length xs ≡ n → AllByRecursion (λ x. x < n) xs → Apart xs → IsPermutation n xs
 indexes_onto n xs long below apart = record {
   sized = long;
   below = λ i l. all_among (λ x. x < n) xs below (get_or xs i 0) (stands_among xs i (omega arith));

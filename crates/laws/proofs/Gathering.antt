@@ -1,7 +1,7 @@
 -- A rebuild gathers exactly as many items as its level has slots, with an index each of their own, and keeps for every slot what its index says.
 use Rattle.std.proofs.Common.{◌≡◌, ℕ, zero, suc, ◌+◌, ◌*◌, ◌^◌, ◌<◌, ◌≤◌, Bool, true, false, cond, eqb, ltb, ◌⊎◌, List, [], ◌∷◌, ◌++◌, map, length, get_or, take, replicate, Some, None, filter, Option, sym, refl, ap, ◌∙◌, subst, inl, inr, ⊎_elim, pow-suc, arith, length-append}
 use lib.ListN.{length-map, length-replicate}
-use Rattle.std.specs.List.{range_with_len, AllByRecursion as All}
+use Rattle.std.specs.List.{range_with_len, AllByRecursion}
 use Rattle.std.proofs.ByRecursion.{All-append, All-weaker}
 use Rattle.std.proofs.lemmas.List.{append-nil, take-take, get_or-take}
 use Rattle.std.proofs.lemmas.Bool.{cases_Bool, cases_lt, eq-eqb, eqb-true, lt-ltb, le-ltb, cond-true, cond-false, or_cases, or_left, or_right, or_parts, or_from, both_ways}
@@ -35,7 +35,7 @@ use Rattle.laws.proofs.Placing.{indexes, In, placed_count, placed_right, placed_
 -- what holds of items and the new list, so that each slot gets what its index says
 pub record Fit (N : ℕ) (value : ℕ → List ℕ) (new : List ℕ) (is : List Item) : Type 0 where
   pub rises : Rising new
-  pub good : All (Good (In new) value) is
+  pub good : AllByRecursion (Good (In new) value) is
   pub apart : Apart (addresses_of is)
   pub there : (x : ℕ) → has new x ≡ true → among (addresses_of is) x ≡ true
   pub many : length is ≡ N
@@ -43,7 +43,7 @@ pub record Fit (N : ℕ) (value : ℕ → List ℕ) (new : List ℕ) (is : List 
 -- what a rebuild of N slots by build t places
 pub record Places (ts : List (List ℕ)) (W : ℕ) (value : ℕ → List ℕ) (N t : ℕ) (new : List ℕ) (gs : List Placed) : Type 0 where
   pub count : length gs ≡ N
-  pub below : All (λ i. i < N) (map (λ g. g.index) gs)
+  pub below : AllByRecursion (λ i. i < N) (map (λ g. g.index) gs)
   pub apart : Apart (map (λ g. g.index) gs)
   pub kept : (j : ℕ) → j < N → kept_for ts t (slot_of ts t j) (blank W) gs ≡ said W value (rebuilt_level new t) j
 
@@ -66,7 +66,7 @@ places ts W value N t new is fit perm = record {
         no_longer new (addresses_of is) (rising_apart new fit.rises) (λ i l. fit.there (get_or new i 0) (stands_has new i l)) in
         omega (arith, few, items_counted is, fit.many)
 
-    below : All (λ i. i < N) (indexes (placed W new (length new) is))
+    below : AllByRecursion (λ i. i < N) (indexes (placed W new (length new) is))
     below =
         All-weaker (λ i. i < length new + spares is) (λ i. i < N) (λ i l. omega (arith, room)) (indexes (placed W new (length new) is))
         (placed_below W value new fit.rises (length new) is (omega arith) fit.good)
@@ -110,7 +110,7 @@ no_addresses : (n : ℕ) → addresses_of (replicate n (spare None)) ≡ []
 no_addresses zero = refl
 no_addresses (suc n) = no_addresses n
 
-all_spare : (P : ℕ → Type 0) (value : ℕ → List ℕ) (n : ℕ) → All (Good P value) (replicate n (spare None))
+all_spare : (P : ℕ → Type 0) (value : ℕ → List ℕ) (n : ℕ) → AllByRecursion (Good P value) (replicate n (spare None))
 all_spare P value zero = tt
 all_spare P value (suc n) = (tt, all_spare P value n)
 
@@ -121,10 +121,10 @@ dummies_without_address L l = by (ltb l L)
     by true = no_addresses (2 ^ l)
     by false = refl
 
-dummies_good : (P : ℕ → Type 0) (value : ℕ → List ℕ) (L l : ℕ) → All (Good P value) (fresh_dummies L l)
+dummies_good : (P : ℕ → Type 0) (value : ℕ → List ℕ) (L l : ℕ) → AllByRecursion (Good P value) (fresh_dummies L l)
 dummies_good P value L l = by (ltb l L)
   where
-    by : (b : Bool) → All (Good P value) (cond b (replicate (2 ^ l) (spare None)) [])
+    by : (b : Bool) → AllByRecursion (Good P value) (cond b (replicate (2 ^ l) (spare None)) [])
     by true = all_spare P value (2 ^ l)
     by false = tt
 

@@ -1,7 +1,7 @@
 -- What a rebuild takes from levels one above another: as many items as it should, every listed address that is not held, once, with its current bytes.
 use Rattle.std.proofs.Common.{◌≡◌, ℕ, suc, ◌+◌, ◌*◌, ◌^◌, ◌<◌, Bool, true, false, ◌||◌, eqb, ◌⊎◌, List, [], ◌∷◌, ◌++◌, map, length, get_or, Some, sym, refl, ap, ◌∙◌, subst, inl, inr, pow-suc, arith, length-append}
 use lib.ListN.{length-map}
-use Rattle.std.specs.List.{AllByRecursion as All}
+use Rattle.std.specs.List.{AllByRecursion}
 use Rattle.std.proofs.ByRecursion.{All-append}
 use Rattle.std.proofs.lemmas.Bool.{cases_Bool, eq-eqb, ltb-true, cond_both, or_cases, or_left, or_right, or_parts, or_from, both_ways, false≢true}
 use Rattle.shape.specs.Numbers.{blocks, level_slots, level_start}
@@ -27,14 +27,14 @@ Current ts slots a value l lower v =
     (j : ℕ) → j < size v → taken a lower (get_or v.members j 0) ≡ false →
     (slot_at slots (level_start l + slot_of ts v.build j)).bytes ≡ value (get_or v.members j 0)
 
-all_image : {X : Type 0} (Q : X → Type 0) (f : ℕ → X) (ss : List ℕ) → ((s : ℕ) → among ss s ≡ true → Q (f s)) → All Q (map f ss)
+all_image : {X : Type 0} (Q : X → Type 0) (f : ℕ → X) (ss : List ℕ) → ((s : ℕ) → among ss s ≡ true → Q (f s)) → AllByRecursion Q (map f ss)
 all_image Q f [] h = tt
 all_image Q f (s ∷ ss) h = (h s (or_left (eqb s s) (among ss s) (eq-eqb s s refl)), all_image Q f ss (λ x e. h x (or_right (eqb s x) (among ss x) e)))
 
 level_good : (L t a : ℕ) (ts : List (List ℕ)) (s : List (Act Mark)) (slots : List Slot) (value : ℕ → List ℕ) (P : ℕ → Type 0)
     (l : ℕ) (lower : List Level) (v : Level) → Source L t a ts s l lower v → Current ts slots a value l lower v →
     ((x : ℕ) → has v.members x ≡ true → x < blocks L → P x) →
-    All (Good P value) (map (item_at ts slots l v) (untouched_slots ts a lower l v))
+    AllByRecursion (Good P value) (map (item_at ts slots l v) (untouched_slots ts a lower l v))
 level_good L t a ts s slots value P l lower v src now fine = all_image (Good P value) (item_at ts slots l v) (untouched_slots ts a lower l v) good
   where
     good : (x : ℕ) → among (untouched_slots ts a lower l v) x ≡ true → Good P value (item_at ts slots l v x)
@@ -140,7 +140,7 @@ levels_apart L t a ts s slots lower l (v ∷ vs) h =
 -- with current bytes
 pub levels_good : (L t a : ℕ) (ts : List (List ℕ)) (s : List (Act Mark)) (slots : List Slot) (value : ℕ → List ℕ) (P : ℕ → Type 0)
     (lower : List Level) (l : ℕ) (vs : List Level) → Along (Source L t a ts s) lower l vs → Along (Current ts slots a value) lower l vs →
-    ((x : ℕ) → listed vs x ≡ true → x < blocks L → P x) → All (Good P value) (level_items ts slots a lower l vs)
+    ((x : ℕ) → listed vs x ≡ true → x < blocks L → P x) → AllByRecursion (Good P value) (level_items ts slots a lower l vs)
 levels_good L t a ts s slots value P lower l [] h k fine = tt
 levels_good L t a ts s slots value P lower l (v ∷ vs) h k fine =
     All-append (Good P value) (map (item_at ts slots l v) (untouched_slots ts a lower l v)) (level_items ts slots a (lower ++ (v ∷ [])) (suc l) vs)

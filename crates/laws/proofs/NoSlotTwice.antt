@@ -1,6 +1,6 @@
 -- No slot is asked twice between builds of its level.
 use Rattle.std.proofs.Common.{◌≡◌, ℕ, ◌+◌, ◌<◌, ◌≤◌, true, false, cond, eqb, ◌⊎◌, List, [], ◌∷◌, ◌++◌, map, get_or, None, sym, refl, ap, ◌∙◌, subst, inl, inr, arith}
-use Rattle.std.specs.List.{AllByRecursion as All}
+use Rattle.std.specs.List.{AllByRecursion}
 use Rattle.std.proofs.lemmas.Bool.{or_cases, or_left, eqb-true, eq-eqb, false≢true, both_ways}
 use Rattle.shape.specs.Numbers.{level_slots, level_start}
 use Rattle.store.specs.declared.entry.Entry.{Entry}
@@ -36,7 +36,7 @@ places_of_round (p ∷ ps) = ap (λ qs. p ∷ qs) (later ps)
     later [] = refl
     later (q ∷ qs) = ap (λ xs. q ∷ xs) (later qs)
 
-all_both : {X : Type 0} (P Q : X → Type 0) (xs : List X) → All P xs → All Q xs → All (λ x. P x × Q x) xs
+all_both : {X : Type 0} (P Q : X → Type 0) (xs : List X) → AllByRecursion P xs → AllByRecursion Q xs → AllByRecursion (λ x. P x × Q x) xs
 all_both P Q [] h k = tt
 all_both P Q (x ∷ xs) h k = ((h.0, k.0), all_both P Q xs h.1 k.1)
 
@@ -44,7 +44,7 @@ abbrev pub as_acts : List Ask → List (Act Mark)
 as_acts = map (λ q. ask q.build q.index)
 
 -- of asks that all are P, one is at a place where one is
-pub ask_at : (ts : List (List ℕ)) (P : Ask → Type 0) (qs : List Ask) → All P qs → (x : ℕ) → has (map (ask_place ts) qs) x ≡ true →
+pub ask_at : (ts : List (List ℕ)) (P : Ask → Type 0) (qs : List Ask) → AllByRecursion P qs → (x : ℕ) → has (map (ask_place ts) qs) x ≡ true →
     (q : Ask) × P q × (ask_place ts q ≡ x) × (among (asked_of q.build (as_acts qs)) q.index ≡ true)
 ask_at ts P [] h x e = absurd (false≢true e)
 ask_at ts P (q ∷ qs) h x e = by (ask_at ts P qs h.1 x) (or_cases (eqb (ask_place ts q) x) (has (map (ask_place ts) qs) x) e)

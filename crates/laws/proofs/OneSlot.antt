@@ -1,6 +1,6 @@
 -- Each accepted access is one round of one slot in every occupied level.
 use Rattle.std.proofs.Common.{◌≡◌, ℕ, ◌+◌, ◌*◌, ◌≤◌, true, false, List, [], ◌∷◌, ◌++◌, map, length, Some, None, filter, Option, sym, refl, ap, ◌∙◌, subst, ap₂, zero-add, arith}
-use Rattle.std.specs.List.{range_with_len, AllByRecursion as All}
+use Rattle.std.specs.List.{range_with_len, AllByRecursion}
 use Rattle.shape.specs.Numbers.{level_start}
 use Rattle.store.specs.declared.entry.Entry.{Entry}
 use Rattle.store.specs.State.{Slot}
@@ -47,7 +47,7 @@ resting_levels L K r s k a ready =
     asked_levels L r None s L 0 r [] k.levels false a (λ i. bit i r) ready.levels (λ i. ap (λ j. bit j r) (zero-add i))
     ∙ ap (λ l. filter (λ i. bit i r) (range_with_len 0 L) ++ (l ∷ [])) (zero-add L)
 
-pub resting_builds : (L K r : ℕ) (s : List (Act Mark)) (k : Client) (a : ℕ) → Ready L K r None s k → All (Fitting L) (asks a k.levels)
+pub resting_builds : (L K r : ℕ) (s : List (Act Mark)) (k : Client) (a : ℕ) → Ready L K r None s k → AllByRecursion (Fitting L) (asks a k.levels)
 resting_builds L K r s k a ready = asked_builds L r None s L 0 r [] k.levels false a (sym (zero-add L)) ready.levels
 
 -- an odd turn is a resting one
@@ -97,7 +97,7 @@ rests L W K some cs j op a room run passed =
 -- the asks of an accepted access are new
 pub access_asks_new : (L W K : ℕ) → 1 ≤ K → (cs : List Call) (j op a room : ℕ) (run : List ℕ) →
     verdict K (clients_after K (opened L W None) cs) (access j op a run room) ≡ None →
-    All (New (build_sizes L K) (script K (opened L W None) cs ++ (mark begins ∷ []))) (asks a (clients_after K (opened L W None) cs).levels)
+    AllByRecursion (New (build_sizes L K) (script K (opened L W None) cs ++ (mark begins ∷ []))) (asks a (clients_after K (opened L W None) cs).levels)
 access_asks_new L W K some cs j op a room run passed =
     let s = script K (opened L W None) cs in
     let k = clients_after K (opened L W None) cs in

@@ -1,6 +1,6 @@
 -- New indexes: blocks take their ranks in the new list, and dummies the indexes from its length on; so each slot of the new level gets what its index says.
 use Rattle.std.proofs.Common.{◌≡◌, ℕ, suc, ◌+◌, ◌<◌, ◌≤◌, true, false, cond, eqb, ltb, ◌⊎◌, List, [], ◌∷◌, map, length, get_or, sym, refl, ap, ◌∙◌, subst, inl, inr, ⊎_elim, arith}
-use Rattle.std.specs.List.{AllByRecursion as All}
+use Rattle.std.specs.List.{AllByRecursion}
 use Rattle.std.proofs.ByRecursion.{All-weaker}
 use Rattle.std.proofs.lemmas.Bool.{cases_Bool, eq-eqb, eqb-true, lt-ltb, le-ltb, cond-true, cond-false, or_cases, or_left, or_right, both_ways, false≢true}
 use Rattle.store.specs.State.{Slot}
@@ -32,7 +32,7 @@ abbrev pub Right : ℕ → (ℕ → List ℕ) → List ℕ → ℕ → Placed �
 Right W value new t g = g.slot ≡ said W value (rebuilt_level new t) g.index
 
 pub placed_right : (W : ℕ) (value : ℕ → List ℕ) (new : List ℕ) (t : ℕ) → Rising new → (next : ℕ) (is : List Item) → length new ≤ next →
-    All (Good (In new) value) is → All (Right W value new t) (placed W new next is)
+    AllByRecursion (Good (In new) value) is → AllByRecursion (Right W value new t) (placed W new next is)
 placed_right W value new t rises next [] l h = tt
 placed_right W value new t rises next (block p x bytes ∷ is) l h = (
   ap (block_slot x) h.0.1 ∙ sym (
@@ -47,7 +47,7 @@ placed_right W value new t rises next (spare p ∷ is) l h = (
 )
 
 -- an index below the length of the new list is that of a gathered block
-pub low_index : (W : ℕ) (value : ℕ → List ℕ) (new : List ℕ) → Rising new → (next : ℕ) (is : List Item) → length new ≤ next → All (Good (In new) value) is →
+pub low_index : (W : ℕ) (value : ℕ → List ℕ) (new : List ℕ) → Rising new → (next : ℕ) (is : List Item) → length new ≤ next → AllByRecursion (Good (In new) value) is →
     (i : ℕ) → i < length new → among (indexes (placed W new next is)) i ≡ true → among (addresses_of is) (get_or new i 0) ≡ true
 low_index W value new rises next [] l h i low e = absurd (false≢true e)
 low_index W value new rises next (block p x bytes ∷ is) l h i low e =
@@ -65,7 +65,7 @@ low_index W value new rises next (spare p ∷ is) l h i low e =
     here f = omega (arith, eqb-true next i f)
 
 -- any other is at least the next
-pub high_index : (W : ℕ) (value : ℕ → List ℕ) (new : List ℕ) → Rising new → (next : ℕ) (is : List Item) → All (Good (In new) value) is →
+pub high_index : (W : ℕ) (value : ℕ → List ℕ) (new : List ℕ) → Rising new → (next : ℕ) (is : List Item) → AllByRecursion (Good (In new) value) is →
     (i : ℕ) → length new ≤ i → among (indexes (placed W new next is)) i ≡ true → next ≤ i
 high_index W value new rises next [] h i high e = absurd (false≢true e)
 high_index W value new rises next (block p x bytes ∷ is) h i high e =
@@ -84,7 +84,7 @@ high_index W value new rises next (spare p ∷ is) h i high e =
     later : suc next ≤ i → next ≤ i
     later f = omega arith
 
-pub placed_apart : (W : ℕ) (value : ℕ → List ℕ) (new : List ℕ) → Rising new → (next : ℕ) (is : List Item) → length new ≤ next → All (Good (In new) value) is →
+pub placed_apart : (W : ℕ) (value : ℕ → List ℕ) (new : List ℕ) → Rising new → (next : ℕ) (is : List Item) → length new ≤ next → AllByRecursion (Good (In new) value) is →
     Apart (addresses_of is) → Apart (indexes (placed W new next is))
 placed_apart W value new rises next [] l h k = tt
 placed_apart W value new rises next (block p x bytes ∷ is) l h k = (absent (indexes (placed W new next is)) (smaller new x) twice, placed_apart W value new rises next is l h.1 k.1)
@@ -98,8 +98,8 @@ placed_apart W value new rises next (spare p ∷ is) l h k = (absent (indexes (p
     twice : among (indexes (placed W new (suc next) is)) next ≡ true → ⊥
     twice e = omega (arith, high_index W value new rises (suc next) is h.1 next l e)
 
-pub placed_below : (W : ℕ) (value : ℕ → List ℕ) (new : List ℕ) → Rising new → (next : ℕ) (is : List Item) → length new ≤ next → All (Good (In new) value) is →
-    All (λ i. i < next + spares is) (indexes (placed W new next is))
+pub placed_below : (W : ℕ) (value : ℕ → List ℕ) (new : List ℕ) → Rising new → (next : ℕ) (is : List Item) → length new ≤ next → AllByRecursion (Good (In new) value) is →
+    AllByRecursion (λ i. i < next + spares is) (indexes (placed W new next is))
 placed_below W value new rises next [] l h = tt
 placed_below W value new rises next (block p x bytes ∷ is) l h = (omega (arith, rank_below new rises x h.0.0), placed_below W value new rises next is l h.1)
 placed_below W value new rises next (spare p ∷ is) l h = (
@@ -112,7 +112,7 @@ placed_below W value new rises next (spare p ∷ is) l h = (
 
 -- if all that goes there is one thing, and something goes there, it is that
 pub kept_is : (ts : List (List ℕ)) (t d : ℕ) (that before : Slot) (gs : List Placed) →
-    All (λ g. eqb (slot_of ts t g.index) d ≡ true → g.slot ≡ that) gs →
+    AllByRecursion (λ g. eqb (slot_of ts t g.index) d ≡ true → g.slot ≡ that) gs →
     (before ≡ that) ⊎ (among (map (λ g. slot_of ts t g.index) gs) d ≡ true) → kept_for ts t d before gs ≡ that
 kept_is ts t d that before [] h (inl e) = e
 kept_is ts t d that before [] h (inr e) = absurd (false≢true e)
@@ -136,8 +136,8 @@ goes_there ts t j (g ∷ gs) h =
     (or_cases (eqb g.index j) (among (indexes gs) j) h)
 
 only_that : (N W : ℕ) (value : ℕ → List ℕ) (new : List ℕ) (ts : List (List ℕ)) (t j : ℕ) → IsPermutation N (table_of ts t) → j < N → (gs : List Placed) →
-    All (λ i. i < N) (indexes gs) → All (Right W value new t) gs →
-    All (λ g. eqb (slot_of ts t g.index) (slot_of ts t j) ≡ true → g.slot ≡ said W value (rebuilt_level new t) j) gs
+    AllByRecursion (λ i. i < N) (indexes gs) → AllByRecursion (Right W value new t) gs →
+    AllByRecursion (λ g. eqb (slot_of ts t g.index) (slot_of ts t j) ≡ true → g.slot ≡ said W value (rebuilt_level new t) j) gs
 only_that N W value new ts t j perm l [] below right = tt
 only_that N W value new ts t j perm l (g ∷ gs) below right = (
   λ e. right.0 ∙ ap (said W value (rebuilt_level new t)) (perm.apart g.index j below.0 l (eqb-true (slot_of ts t g.index) (slot_of ts t j) e)),
@@ -146,7 +146,7 @@ only_that N W value new ts t j perm l (g ∷ gs) below right = (
 
 -- every slot gets what its index says, if each placed slot is right, and each index is taken
 pub kept_said : (N W : ℕ) (value : ℕ → List ℕ) (new : List ℕ) (ts : List (List ℕ)) (t : ℕ) (before : Slot) → IsPermutation N (table_of ts t) → (gs : List Placed) →
-    All (λ i. i < N) (indexes gs) → All (Right W value new t) gs → (j : ℕ) → j < N → among (indexes gs) j ≡ true →
+    AllByRecursion (λ i. i < N) (indexes gs) → AllByRecursion (Right W value new t) gs → (j : ℕ) → j < N → among (indexes gs) j ≡ true →
     kept_for ts t (slot_of ts t j) before gs ≡ said W value (rebuilt_level new t) j
 kept_said N W value new ts t before perm gs below right j l there =
     kept_is ts t (slot_of ts t j) (said W value (rebuilt_level new t) j) before gs (only_that N W value new ts t j perm l gs below right) (inr (goes_there ts t j gs there))

@@ -1,6 +1,6 @@
 -- Rising lists: members stand at their ranks; and addresses that pass a test, read off in order.
 use Rattle.std.proofs.Common.{◌≡◌, ℕ, zero, suc, ◌+◌, ◌<◌, ◌≤◌, Bool, true, false, cond, ◌||◌, eqb, ◌≢◌, ◌⊎◌, List, [], ◌∷◌, length, get_or, filter, sym, refl, ap, ◌∙◌, subst, inl, inr, ⊎_elim, arith}
-use Rattle.std.specs.List.{range_with_len, AllByRecursion as All}
+use Rattle.std.specs.List.{range_with_len, AllByRecursion}
 use Rattle.std.proofs.ByRecursion.{All-get_or, All-weaker, all_kept_by}
 use Rattle.std.proofs.lemmas.Bool.{cases_Bool, cases_eq, cases_lt, eq-eqb, ne_eqb, eqb-true, lt-ltb, le-ltb, cond-true, or_cases, or_left, or_right, false≢true}
 use Rattle.index.specs.Lists.{has, smaller, Rising}
@@ -67,13 +67,13 @@ rank_place xs a h e = (rank_below xs h a e, rank_stands xs h a e)
 abbrev Within : ℕ → ℕ → ℕ → Type 0
 Within a n x = (a ≤ x) × (x < a + n)
 
-rising_cons : (x : ℕ) (xs : List ℕ) → All (λ y. x < y) xs → Rising xs → Rising (x ∷ xs)
+rising_cons : (x : ℕ) (xs : List ℕ) → AllByRecursion (λ y. x < y) xs → Rising xs → Rising (x ∷ xs)
 rising_cons x xs more rises zero zero h l = omega arith
 rising_cons x xs more rises zero (suc j) h l = All-get_or (λ y. x < y) xs j 0 (omega arith) more
 rising_cons x xs more rises (suc i) zero h l = omega arith
 rising_cons x xs more rises (suc i) (suc j) h l = rises i j (omega arith) (omega arith)
 
-kept_within : (p : ℕ → Bool) (a n : ℕ) → All (Within a n) (filter p (range_with_len a n))
+kept_within : (p : ℕ → Bool) (a n : ℕ) → AllByRecursion (Within a n) (filter p (range_with_len a n))
 kept_within p a n = all_kept_by p (Within a n) (range_with_len a n) (counted_within a n)
 
 pub kept_below : (p : ℕ → Bool) (n j : ℕ) → j < length (filter p (range_with_len 0 n)) → get_or (filter p (range_with_len 0 n)) j 0 < n
@@ -89,7 +89,7 @@ kept_rises p a (suc n) = by (kept_rises p (a + 1) n) (p a)
         (All-weaker (Within (a + 1) n) (λ y. a < y) (λ y w. omega arith) (filter p (range_with_len (a + 1) n)) (kept_within p (a + 1) n)) rest
     by rest false = rest
 
-has_none : (xs : List ℕ) (x : ℕ) → All (λ y. y ≢ x) xs → has xs x ≡ false
+has_none : (xs : List ℕ) (x : ℕ) → AllByRecursion (λ y. y ≢ x) xs → has xs x ≡ false
 has_none [] x h = refl
 has_none (y ∷ ys) x h = rw (ne_eqb y x h.0) (has_none ys x h.1)
 

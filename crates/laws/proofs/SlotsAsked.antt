@@ -1,6 +1,6 @@
 -- The slots that an access asks: within their levels, and places of different levels differ.
 use Rattle.std.proofs.Common.{◌≡◌, ℕ, suc, ◌+◌, ◌^◌, ◌<◌, Bool, true, false, ◌||◌, eqb, ◌⊎◌, List, [], ◌∷◌, ◌++◌, map, length, sym, refl, ap, ◌∙◌, subst, ap₂, inl, inr, pow-suc, arith, pow_mono}
-use Rattle.std.specs.List.{AllByRecursion as All}
+use Rattle.std.specs.List.{AllByRecursion}
 use Rattle.std.proofs.lemmas.List.{append_assoc, append-nil}
 use Rattle.std.proofs.lemmas.Bool.{cases_Bool, cond-true, cond-false, cases_order, or_parts, or_right, eqb-true, both_ways}
 use Rattle.shape.specs.Numbers.{level_slots, level_start, level_of_build}
@@ -48,13 +48,13 @@ not_asked_before b i s t h = not_among_left (asked_of b s) (asked_of b t) i (ap 
 abbrev pub New : List ℕ → List (Act Mark) → Ask → Type 0
 New ns past q = (q.build < length ns) × (q.index < size_of ns q.build) × (among (asked_of q.build past) q.index ≡ false)
 
-new_before : (ns : List ℕ) (past more : List (Act Mark)) (qs : List Ask) → All (New ns (past ++ more)) qs → All (New ns past) qs
+new_before : (ns : List ℕ) (past more : List (Act Mark)) (qs : List Ask) → AllByRecursion (New ns (past ++ more)) qs → AllByRecursion (New ns past) qs
 new_before ns past more [] h = tt
 new_before ns past more (q ∷ qs) h =
     ((h.0.0, h.0.1, not_asked_before q.build q.index past more h.0.2), new_before ns past more qs h.1)
 
 pub asks_new : (ns : List ℕ) (past : List (Act Mark)) (qs : List Ask) (rest : List (Act Mark)) →
-    SoundAfter ns past (map (λ q. ask q.build q.index) qs ++ rest) → All (New ns past) qs
+    SoundAfter ns past (map (λ q. ask q.build q.index) qs ++ rest) → AllByRecursion (New ns past) qs
 asks_new ns past [] rest ok = tt
 asks_new ns past (q ∷ qs) rest ok =
     (ok.0, new_before ns past (ask q.build q.index ∷ []) qs (asks_new ns (past ++ (ask q.build q.index ∷ [])) qs rest ok.1))
@@ -75,14 +75,14 @@ ask_within L K ts past q choice fit new =
     subst (λ n. slot_of ts b q.index < n) (size_at L K q.level b l fit) ((choice.tables b new.0).below q.index new.1)
 
 pub asks_within : (L K : ℕ) (ts : List (List ℕ)) (past : List (Act Mark)) (qs : List Ask) → Choices L K ts →
-    All (Fitting L) qs → All (New (build_sizes L K) past) qs → All (Within ts) qs
+    AllByRecursion (Fitting L) qs → AllByRecursion (New (build_sizes L K) past) qs → AllByRecursion (Within ts) qs
 asks_within L K ts past [] choice fit new = tt
 asks_within L K ts past (q ∷ qs) choice fit new = (ask_within L K ts past q choice fit.0 new.0, asks_within L K ts past qs choice fit.1 new.1)
 
 power_some : (l : ℕ) → 0 < 2 ^ l
 power_some l = pow_mono {i = 0} {j = l} (omega arith)
 
-pub slot_asked_within : (ts : List (List ℕ)) (qs : List Ask) → All (Within ts) qs → (l : ℕ) → slot_asked ts qs l < level_slots l
+pub slot_asked_within : (ts : List (List ℕ)) (qs : List Ask) → AllByRecursion (Within ts) qs → (l : ℕ) → slot_asked ts qs l < level_slots l
 slot_asked_within ts [] h l = power_some (l + 1)
 slot_asked_within ts (q ∷ qs) h l = by (slot_asked_within ts qs h.1 l) (cases_Bool (eqb q.level l))
   where

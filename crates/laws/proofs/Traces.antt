@@ -2,7 +2,7 @@
 use Rattle.std.proofs.Common.{◌≡◌, ℕ, zero, suc, ◌+◌, ◌*◌, ◌/◌, ◌^◌, ◌<◌, Bool, true, false, cond, not, ltb, List, [], ◌∷◌, ◌++◌, map, length, take, replicate, Some, None, filter, Option, sym, refl, ap, ◌∙◌, subst, ap₂, ⊎_elim, arith}
 use mathlib.Core.List.{map-map}
 use native.Mathlib.Nat.{pow-zero}
-use Rattle.std.specs.List.{range_with_len, AllByRecursion as All}
+use Rattle.std.specs.List.{range_with_len, AllByRecursion}
 use Rattle.std.proofs.lemmas.List.{append-nil, append_assoc, map-append}
 use Rattle.std.proofs.lemmas.Bool.{cases_lt, lt-ltb, le-ltb}
 use Rattle.shape.specs.Numbers.{level_slots, level_start, scratch_start, level_of_build}
@@ -43,12 +43,12 @@ abbrev PlacedRightly : ℕ → Ask → Type 0
 PlacedRightly L q = level_of_build L q.build ≡ q.level
 
 asks_placed : (L t : ℕ) (h : Option ℕ) (s : List (Act Mark)) (more l q : ℕ) (lower vs : List Level) (found : Bool) (a : ℕ) →
-    Fits L t h s more l q lower vs → l + more ≡ L → All (PlacedRightly L) (asks_from found a l vs)
+    Fits L t h s more l q lower vs → l + more ≡ L → AllByRecursion (PlacedRightly L) (asks_from found a l vs)
 asks_placed L t h s zero l q lower [] found a fits e = absurd fits
 asks_placed L t h s zero l q lower (v ∷ []) found a fits e =
     let same : L ≡ l = omega arith in
     let level : level_of_build L v.build ≡ l = ap (level_of_build L) (fits.1 ∙ ap (λ n. q * 2 ^ n) (sym same)) ∙ level_highest L q ∙ same in
-    subst (λ b. All (PlacedRightly L) (cond b (record { level = l; build = v.build; index = asked_index found a v } ∷ []) [])) (sym fits.0.occupied) (level, tt)
+    subst (λ b. AllByRecursion (PlacedRightly L) (cond b (record { level = l; build = v.build; index = asked_index found a v } ∷ []) [])) (sym fits.0.occupied) (level, tt)
 asks_placed L t h s zero l q lower (v ∷ (w ∷ vs)) found a fits e = absurd (omega (arith, ap length fits.3))
 asks_placed L t h s (suc more) l q lower [] found a fits e = absurd fits
 asks_placed L t h s (suc more) l q lower (v ∷ vs) found a fits e = ⊎_elim
@@ -56,16 +56,16 @@ asks_placed L t h s (suc more) l q lower (v ∷ vs) found a fits e = ⊎_elim
     let here = odd_part L t l q h s lower v odd fits.0 in
     let level : level_of_build L v.build ≡ l = ap (level_of_build L) here.1 ∙ level_below L l q (omega arith) odd in
     let rest = asks_from (found_after found a v) a (suc l) vs in
-    subst (λ b. All (PlacedRightly L) (cond b (record { level = l; build = v.build; index = asked_index found a v } ∷ rest) rest)) (sym here.0.occupied)
+    subst (λ b. AllByRecursion (PlacedRightly L) (cond b (record { level = l; build = v.build; index = asked_index found a v } ∷ rest) rest)) (sym here.0.occupied)
     (level, asks_placed L t h s more (suc l) (q / 2) (lower ++ (v ∷ [])) vs (found_after found a v) a fits.1 (omega arith)))
     (λ even.
     let here = even_part L t l q h s lower v even fits.0 in
-    subst (λ u. All (PlacedRightly L) (asks_from found a l (u ∷ vs))) (sym here)
+    subst (λ u. AllByRecursion (PlacedRightly L) (asks_from found a l (u ∷ vs))) (sym here)
     (asks_placed L t h s more (suc l) (q / 2) (lower ++ (v ∷ [])) vs (found_after found a vacant) a fits.1 (omega arith)))
     (odd_or_even q)
 
 -- asks are seen as one round, and then what follows
-asks_seen : (L : ℕ) (ns : List ℕ) (ts : List (List ℕ)) (slots : List Slot) (past : List (Act Mark)) (qs : List Ask) → All (PlacedRightly L) qs →
+asks_seen : (L : ℕ) (ns : List ℕ) (ts : List (List ℕ)) (slots : List Slot) (past : List (Act Mark)) (qs : List Ask) → AllByRecursion (PlacedRightly L) qs →
     (first : Bool) (k : ℕ) (more : List (Seen Mark)) (es : List Entry) → ((f : Bool) (i : ℕ) → rendered L f i more ≡ es) →
     rendered L first k (view_after ns ts past (map as_act qs) ++ more) ≡ entries (fetched first slots (map (ask_place ts) qs)) ++ es
 asks_seen L ns ts slots past [] right first k more es then = then first k

@@ -1,6 +1,6 @@
 -- The slots after requests: what no request writes is as before, and what is written once is there.
 use Rattle.std.proofs.Common.{◌≡◌, ℕ, zero, suc, ◌+◌, ◌<◌, ◌≤◌, Bool, true, false, cond, ◌⊎◌, List, [], ◌∷◌, ◌++◌, map, length, set, sym, refl, ap, ◌∙◌, subst, inl, inr, arith}
-use Rattle.std.specs.List.{range_with_len, AllByRecursion as All}
+use Rattle.std.specs.List.{range_with_len, AllByRecursion}
 use Rattle.std.proofs.ByRecursion.{All-append, All-map}
 use Rattle.std.proofs.lemmas.List.{get_or-set_same, get_or-set_other, length-set}
 use Rattle.std.proofs.lemmas.Bool.{cases_eq, false≢true}
@@ -13,7 +13,7 @@ abbrev pub Spares : ℕ → Request → Type 0
 Spares p r = r.entry.write ≡ true → r.entry.place ≡ p → ⊥
 
 abbrev pub Spared : ℕ → List Request → Type 0
-Spared p rs = All (Spares p) rs
+Spared p rs = AllByRecursion (Spares p) rs
 
 -- a place that no request writes is as before
 pub spared_as_before : (slots : List Slot) (rs : List Request) (p : ℕ) → Spared p rs → slot_at (wrote slots rs) p ≡ slot_at slots p
@@ -31,7 +31,7 @@ spared_append p rs qs = All-append (Spares p) rs qs
 -- ---- requests numbered by counting
 
 -- what holds of every number from a, n of them, holds of them all
-pub all_counting : (P : ℕ → Type 0) (a n : ℕ) → ((i : ℕ) → a ≤ i → i < a + n → P i) → All P (range_with_len a n)
+pub all_counting : (P : ℕ → Type 0) (a n : ℕ) → ((i : ℕ) → a ≤ i → i < a + n → P i) → AllByRecursion P (range_with_len a n)
 all_counting P a zero h = tt
 all_counting P a (suc n) h = (h a (omega arith) (omega arith), all_counting P (a + 1) n (λ i low high. h i (omega arith) (omega arith)))
 

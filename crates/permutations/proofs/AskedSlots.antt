@@ -1,7 +1,7 @@
 -- A slot was asked for exactly when its index was.
 use Rattle.std.proofs.Common.{◌≡◌, ℕ, ◌<◌, ◌≤◌, not, eqb, ◌⊎◌, List, map, length, get_or, filter, sym, ap, ◌∙◌, inl, inr, arith}
 use mathlib.Core.Path.{fun_ext}
-use Rattle.std.specs.List.{range_with_len, AllByRecursion as All}
+use Rattle.std.specs.List.{range_with_len, AllByRecursion}
 use Rattle.std.proofs.lemmas.Bool.{cases_lt}
 use Rattle.permutations.specs.Tables.{IsPermutation, position}
 use Rattle.permutations.specs.Lists.{among}
@@ -29,7 +29,7 @@ slot_is n p h s i l =
         let first : position p s ≤ i = position_first p s i e in
         h.apart i (position p s) l (omega arith) (e ∙ sym (position_stands p s (omega (arith, h.sized))))
 
-pub slots_asked_by_index : (n : ℕ) (p : List ℕ) → IsPermutation n p → (is : List ℕ) → All (λ i. i < n) is → (s : ℕ) →
+pub slots_asked_by_index : (n : ℕ) (p : List ℕ) → IsPermutation n p → (is : List ℕ) → AllByRecursion (λ i. i < n) is → (s : ℕ) →
     among (map (slot_in p) is) s ≡ among is (position p s)
 slots_asked_by_index n p h is below s = among_map (slot_in p) (λ i. i < n) s (position p s) (slot_is n p h s) is below
 

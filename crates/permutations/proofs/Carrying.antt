@@ -1,7 +1,7 @@
 -- Swaps, the permutation that takes one list to another, and tables moved by it.
 use Rattle.std.proofs.Common.{◌≡◌, ℕ, ◌<◌, Bool, true, false, cond, eqb, List, [], ◌∷◌, map, length, sym, refl, ap, ◌∙◌, subst, ap₂, arith}
 use mathlib.Core.List.{map-map}
-use Rattle.std.specs.List.{AllByRecursion as All}
+use Rattle.std.specs.List.{AllByRecursion}
 use Rattle.std.proofs.lemmas.List.FromFn.{get_or-map-range_with_len, length-map-range_with_len}
 use Rattle.std.proofs.lemmas.List.{ext_get_or}
 use Rattle.std.proofs.lemmas.Bool.{eqb-false, or_parts}
@@ -58,7 +58,7 @@ carried_undone is js = (both_undone is js).0
 pub carried_apart : (is js : List ℕ) (x y : ℕ) → carried is js x ≡ carried is js y → x ≡ y
 carried_apart is js x y e = sym (carried_undone is js x) ∙ ap (carried js is) e ∙ carried_undone is js y
 
-pub carried_below : (n : ℕ) (is js : List ℕ) → All (λ i. i < n) is → All (λ j. j < n) js → (x : ℕ) → x < n → carried is js x < n
+pub carried_below : (n : ℕ) (is js : List ℕ) → AllByRecursion (λ i. i < n) is → AllByRecursion (λ j. j < n) js → (x : ℕ) → x < n → carried is js x < n
 carried_below n [] js h k x l = l
 carried_below n (i ∷ is) [] h k x l = l
 carried_below n (i ∷ is) (j ∷ js) h k x l =
@@ -72,7 +72,7 @@ swap_stays a b (x ∷ xs) h k =
     let q = or_parts (eqb x b) (among xs b) k in
     ap₂ (λ (y : ℕ) (ys : List ℕ). y ∷ ys) (swap_other a b x (eqb-false x a p.0) (eqb-false x b q.0)) (swap_stays a b xs p.1 q.1)
 
-all_true : (xs : List ℕ) → All (λ x. Unit {0}) xs
+all_true : (xs : List ℕ) → AllByRecursion (λ x. Unit {0}) xs
 all_true [] = tt
 all_true (x ∷ xs) = (tt, all_true xs)
 
@@ -91,7 +91,7 @@ carried_list (i ∷ is) (j ∷ js) h k l =
 
 -- ---- tables
 
-map_same : (f g : ℕ → ℕ) (P : ℕ → Type 0) → ((x : ℕ) → P x → f x ≡ g x) → (xs : List ℕ) → All P xs → map f xs ≡ map g xs
+map_same : (f g : ℕ → ℕ) (P : ℕ → Type 0) → ((x : ℕ) → P x → f x ≡ g x) → (xs : List ℕ) → AllByRecursion P xs → map f xs ≡ map g xs
 map_same f g P e [] h = refl
 map_same f g P e (x ∷ xs) h = ap₂ (λ (y : ℕ) (ys : List ℕ). y ∷ ys) (e x h.0) (map_same f g P e xs h.1)
 

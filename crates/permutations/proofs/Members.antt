@@ -1,6 +1,6 @@
 -- What stands in a list, and lists in which no number stands twice.
 use Rattle.std.proofs.Common.{◌≡◌, ℕ, Bool, false, ◌||◌, eqb, List, [], ◌∷◌, ◌++◌, map, sym, refl, ◌∙◌, ap₂, ⊎_elim}
-use Rattle.std.specs.List.{AllByRecursion as All}
+use Rattle.std.specs.List.{AllByRecursion}
 use Rattle.std.proofs.lemmas.Bool.{cases_eq, eq-eqb, ne_eqb, eqb-false, or_parts, or_from}
 use Rattle.permutations.specs.Lists.{among, Apart}
 
@@ -11,7 +11,7 @@ eqb_same a b c d to from =
 
 -- y stands in the image as a does in the list, if the members that meet y are those that meet a
 pub among_map : (f : ℕ → ℕ) (P : ℕ → Type 0) (y a : ℕ) → ((x : ℕ) → P x → eqb (f x) y ≡ eqb x a) →
-    (xs : List ℕ) → All P xs → among (map f xs) y ≡ among xs a
+    (xs : List ℕ) → AllByRecursion P xs → among (map f xs) y ≡ among xs a
 among_map f P y a same [] h = refl
 among_map f P y a same (x ∷ xs) h = ap₂ (λ (b c : Bool). b || c) (same x h.0) (among_map f P y a same xs h.1)
 

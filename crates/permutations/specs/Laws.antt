@@ -1,6 +1,6 @@
 -- The laws: two scripts that look alike have choices that correspond, partners showing the host the same.
 use Rattle.std.specs.Prelude.{◌≡◌, ℕ, ◌<◌, List, [], ◌∷◌, map, length}
-use Rattle.std.specs.List.{range_with_len, AllByRecursion as All}
+use Rattle.std.specs.List.{range_with_len, AllByRecursion}
 use Rattle.permutations.specs.Tables.{IsPermutation, position}
 use Rattle.permutations.specs.Lists.{among, AreIndexes}
 use Rattle.permutations.specs.Choices.{IsChoice, OneToOne, slot_in}
@@ -34,7 +34,7 @@ ChoicesExist = (ns : List ℕ) → IsChoice ns (map (range_with_len 0) ns)
 -- a slot is one of those asked for exactly when its index is one of those asked
 abbrev pub SlotsAskedByIndex : Type 0
 SlotsAskedByIndex =
-    (n : ℕ) (p : List ℕ) → IsPermutation n p → (is : List ℕ) → All (λ i. i < n) is → (s : ℕ) →
+    (n : ℕ) (p : List ℕ) → IsPermutation n p → (is : List ℕ) → AllByRecursion (λ i. i < n) is → (s : ℕ) →
     among (map (slot_in p) is) s ≡ among is (position p s)
 
 -- ---- an example: two slots of a build of four asked for, and one of a build of two; then the others of the first build read

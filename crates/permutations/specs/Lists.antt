@@ -1,6 +1,6 @@
 -- Lists of numbers: what stands in one, and lists in which no number stands twice.
 use Rattle.std.specs.Prelude.{◌≡◌, ℕ, ◌<◌, Bool, false, ◌||◌, List, [], ◌∷◌, ◌==◌}
-use Rattle.std.specs.List.{AllByRecursion as All}
+use Rattle.std.specs.List.{AllByRecursion}
 
 -- x stands in the list
 abbrev pub among : List ℕ → ℕ → Bool
@@ -14,5 +14,5 @@ Apart (x ∷ xs) = (among xs x ≡ false) × Apart xs
 
 -- numbers below n, and no two alike
 pub record AreIndexes (n : ℕ) (xs : List ℕ) : Type 0 where
-  pub below : All (λ x. x < n) xs
+  pub below : AllByRecursion (λ x. x < n) xs
   pub apart : Apart xs
