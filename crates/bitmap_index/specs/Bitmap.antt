@@ -1,5 +1,5 @@
 -- What a bitmap index means: each level has a row of 64-bit words, and bit a of the row tells whether address a is a member.
-use Rattle.std.specs.Prelude.{ℕ, ◌+◌, ◌*◌, ◌/◌, ◌%◌, ◌^◌, max, Bool, List, [], ◌∷◌, map, take, drop, set, filter, ◌==◌, bit_or, slice_index, slice_set}
+use Rattle.std.specs.Prelude.{ℕ, ◌+◌, ◌*◌, ◌/◌, ◌%◌, ◌^◌, max, Bool, List, [], ◌∷◌, map, take, drop, filter, ◌==◌, bit_or, slice_index, slice_set}
 use Rattle.std.specs.List.{range_with_len}
 
 -- bit k of a word

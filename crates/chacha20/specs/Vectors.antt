@@ -1,5 +1,5 @@
 -- Worked examples of RFC 8439, sections 2.1.1, 2.2.1 and 2.3.2.
-use Rattle.std.specs.Prelude.{◌≡◌, ℕ, List, [], ◌∷◌}
+use Rattle.std.specs.Prelude.{◌≡◌, [], ◌∷◌}
 use Rattle.chacha20.specs.ChaCha20.{quarter_round, block, key_words}
 use Rattle.std.specs.List.{range_with_len}
 

@@ -1,10 +1,9 @@
 -- Lists split between two parts, and put together again.
-use Rattle.std.specs.Prelude.{◌≡◌, ℕ, zero, suc, ◌+◌, ◌-◌, ◌*◌, ◌<◌, ◌≤◌, Bool, true, false, cond, not, ◌&&◌, ◌⊎◌, List, [], ◌∷◌, ◌++◌, map, length, take, drop, nat_lt, slice_index, slice_set, refl}
-use Rattle.std.proofs.Common.{inl, inr, ⊎_elim, sym, ap, subst, ◌∙◌, suc-mul, zero-mul, add-mul, add-one, arith, length-append, length-take, length-drop, take-add}
+use Rattle.std.specs.Prelude.{◌≡◌, ℕ, suc, ◌+◌, ◌-◌, ◌*◌, ◌<◌, ◌≤◌, Bool, true, false, cond, not, List, [], ◌∷◌, ◌++◌, length, take, drop, nat_lt, slice_index, slice_set, refl}
+use Rattle.std.proofs.Common.{sym, ap, subst, ◌∙◌, suc-mul, zero-mul, add-mul, arith, length-append, length-drop, take-add}
 use borrow.Rule.Slice.PartMut.{put_mid}
 use Rattle.std.specs.List.{between}
-use Rattle.std.proofs.lemmas.List.{append_assoc, drop_more, drop_all, drop-drop, take_at, drop_at, take_more_set, take-set-le, take-take, take-append-drop, nil_from_length, length-take-le, take_all, append-nil, drop-take, take_more}
-use Rattle.std.proofs.lemmas.Bool.{cases_Bool, and_parts, and_from, ltb-true, ltb-false, lt-ltb, le-ltb, cond-true, cond-false}
+use Rattle.std.proofs.lemmas.List.{append_assoc, drop_more, drop_all, drop-drop, take_at, drop_at, take_more_set, take-take, take-append-drop, nil_from_length, length-take-le, take_all, append-nil, drop-take}
 use Rattle.joined_store.specs.declared.part.Part.{Part}
 use Rattle.joined_store.specs.declared.part.Part.TheVariants.{First, Second}
 use Rattle.joined_store.specs.Joined.{lies_in, numbered, places_in, items_in}

@@ -1,15 +1,13 @@
 -- Slots of two parts, read and written by the places of a round.
-use Rattle.std.specs.Prelude.{◌≡◌, ℕ, zero, suc, ◌+◌, ◌-◌, ◌*◌, ◌<◌, ◌≤◌, Bool, true, false, cond, not, ◌&&◌, ◌⊎◌, List, [], ◌∷◌, ◌++◌, map, length, take, drop, nat_lt, slice_set, refl}
-use Rattle.std.proofs.Common.{inl, inr, ⊎_elim, sym, ap, subst, ◌∙◌, suc-mul, zero-mul, arith, length-append, length-drop, length-set}
-use Rattle.std.specs.List.{flat_map}
-use Rattle.std.proofs.lemmas.List.{take_at, drop_at, length-take-le, get_or_append_left, get_or-append_right, set-append_left, set-append_right, append-nil, drop_all, take_all, nil_from_length, length-map}
-use Rattle.std.proofs.lemmas.Bool.{cases_Bool, and_parts, and_from, ltb-true, ltb-false, lt-ltb, le-ltb, cond-true, cond-false}
+use Rattle.std.specs.Prelude.{◌≡◌, ℕ, ◌+◌, ◌-◌, ◌*◌, ◌<◌, ◌≤◌, Bool, true, false, cond, not, List, [], ◌∷◌, ◌++◌, length, take, drop, nat_lt, slice_set, refl}
+use Rattle.std.proofs.Common.{⊎_elim, sym, ap, subst, ◌∙◌, suc-mul, zero-mul, arith, length-append, length-drop, length-set}
+use Rattle.std.proofs.lemmas.List.{take_at, drop_at, length-take-le, get_or_append_left, get_or-append_right, set-append_left, set-append_right, length-map}
+use Rattle.std.proofs.lemmas.Bool.{cases_Bool, and_parts, and_from, ltb-true, ltb-false, lt-ltb, cond-true, cond-false}
 use Rattle.store.specs.State.{Slot, slot_at}
-use Rattle.store.specs.Requests.{Request, entry_of, wrote}
+use Rattle.store.specs.Requests.{Request, wrote}
 use Rattle.store.specs.Rounds.{inside, putting, keys_at, bytes_at}
-use Rattle.joined_store.specs.declared.part.Part.{Part}
 use Rattle.joined_store.specs.declared.part.Part.TheVariants.{First, Second}
-use Rattle.joined_store.specs.Joined.{lies_in, numbered, places_in, items_in}
+use Rattle.joined_store.specs.Joined.{places_in, items_in}
 use Rattle.joined_store.specs.Inner.{merged}
 
 abbrev vacant : Slot

@@ -1,5 +1,5 @@
 -- One round more, by how many are left.
-use Rattle.std.proofs.Common.{◌≡◌, ℕ, zero, suc, ◌+◌, ◌-◌, ◌<◌, sym, refl, ap, ◌∙◌, ap₂, arith}
+use Rattle.std.proofs.Common.{◌≡◌, ℕ, zero, suc, ◌-◌, ◌<◌, sym, ap, ap₂, arith}
 use Rattle.keyed_supply.specs.Rounds.{Network, left_changed, right_changed, from_even, from_odd, back_even, back_odd}
 
 module _ (net : Network) where

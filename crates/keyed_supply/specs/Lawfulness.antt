@@ -1,5 +1,5 @@
 -- The keyed supply is lawful: an instance of the law of the rounds, at the widths of each build's level.
-use Rattle.std.specs.Prelude.{◌≡◌, ℕ, ◌<◌, ◌≤◌, List}
+use Rattle.std.specs.Prelude.{ℕ, ◌<◌, ◌≤◌, List}
 use Rattle.std.proofs.Common.{subst, arith}
 use Rattle.shape.specs.Numbers.{level_of_build}
 use Rattle.supply.specs.Choice.{Lawful, build_slots}

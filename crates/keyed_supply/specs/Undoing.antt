@@ -1,5 +1,5 @@
 -- The rounds forth and back as one round that tests the parity of its number: it undoes itself, and so each direction undoes the other.
-use Rattle.std.specs.Prelude.{◌≡◌, ℕ, zero, suc, ◌+◌, ◌-◌, ◌*◌, ◌/◌, ◌%◌, ◌^◌, ◌<◌, ◌≤◌, Bool, true, false, not, bit_xor}
+use Rattle.std.specs.Prelude.{◌≡◌, ℕ, zero, suc, ◌+◌, ◌-◌, ◌%◌, ◌^◌, ◌<◌, Bool, true, false, not, bit_xor}
 use Rattle.std.proofs.Math.Path.{refl, ap, ap₂, subst}
 use Rattle.std.proofs.Common.{sym, ◌∙◌, mod-lt, mul_comm, arith, pow_pos, pow-add}
 use Rattle.std.proofs.Math.Nat.{div-add-mod'}

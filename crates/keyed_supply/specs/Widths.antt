@@ -1,9 +1,9 @@
 -- The halves of a level's numbers: how wide they are, and how many numbers they hold.
-use Rattle.std.specs.Prelude.{◌≡◌, ℕ, ◌+◌, ◌*◌, ◌/◌, ◌%◌, ◌^◌, ◌<◌, ◌≤◌, List}
+use Rattle.std.specs.Prelude.{◌≡◌, ℕ, ◌+◌, ◌*◌, ◌^◌, ◌<◌, ◌≤◌, List}
 use Rattle.std.proofs.Common.{sym, ap, subst, arith, pow_mono}
 use Rattle.std.proofs.lemmas.Nat.{mul-le}
 use Rattle.shape.specs.Numbers.{level_slots}
-use Rattle.keyed_supply.specs.Rounds.{Network, numbers}
+use Rattle.keyed_supply.specs.Rounds.{numbers}
 use Rattle.keyed_supply.specs.Keyed.{left_width, right_width, network}
 
 pub numbers_are_slots : (key : List ℕ) (b l : ℕ) → numbers (network key b l) ≡ level_slots l

@@ -8,7 +8,7 @@ use Rattle.permutations.specs.Choices.{OneToOne}
 use Rattle.permutations.specs.Scripts.{partner}
 use Rattle.permutations.proofs.Choosing.{scripts_correspond}
 use Rattle.rules.specs.World.{Client, World}
-use Rattle.rules.specs.Calls.{Call, load, access, rebuild, declined, Outcome, decline, entries_of}
+use Rattle.rules.specs.Calls.{Call, load, access, rebuild, Outcome, decline, entries_of}
 use Rattle.rules.specs.Opening.{Parts, all_empty, opening_answer, opened, opening}
 use Rattle.rules.specs.Checks.{verdict, unrefused}
 use Rattle.rules.specs.Loading.{loading}

@@ -10,7 +10,7 @@ use Rattle.store.specs.Requests.{Request, entry_of, entries, wrote}
 use Rattle.permutations.specs.Choices.{table_of}
 use Rattle.permutations.specs.Tables.{position}
 use Rattle.rules.specs.World.{Level, Client, World, size}
-use Rattle.rules.specs.Calls.{Call, load, access, rebuild, declined, Outcome, decline, entries_of}
+use Rattle.rules.specs.Calls.{Call, load, access, rebuild, Outcome, decline, entries_of}
 use Rattle.rules.specs.Checks.{verdict, rebuild_level, batches}
 use Rattle.rules.specs.Opening.{opened, opening}
 use Rattle.rules.specs.Slots.{read_round, write_round}

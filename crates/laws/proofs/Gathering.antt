@@ -17,7 +17,7 @@ use Rattle.permutations.specs.Scripts.{Act}
 use Rattle.permutations.proofs.Tables.{onto}
 use Rattle.rules.specs.World.{Level, World, vacant}
 use Rattle.rules.specs.Checks.{rebuild_level}
-use Rattle.rules.specs.Rebuilding.{listed, taken, new_members, Item, spare, level_items, sources, items, Placed, placed, blank, kept_for, held_address, rebuilt_members, gathered, rebuilt_level}
+use Rattle.rules.specs.Rebuilding.{listed, taken, new_members, Item, spare, level_items, sources, items, Placed, placed, blank, kept_for, rebuilt_members, gathered, rebuilt_level}
 use Rattle.laws.specs.Runs.{Choices}
 use Rattle.laws.specs.Keeping.{said, level_at}
 use Rattle.laws.proofs.Scripts.{Mark}

@@ -1,6 +1,6 @@
 -- What always holds of a client that was opened without a refusal and loaded, after a script of asks and closings.
 -- r is the number of rebuilds done. h is the address held, if a rebuild is due.
-use Rattle.std.proofs.Common.{◌≡◌, ℕ, zero, suc, ◌+◌, ◌-◌, ◌*◌, ◌/◌, ◌%◌, ◌^◌, ◌<◌, ◌≤◌, Bool, true, false, cond, ◌||◌, eqb, ltb, List, [], ◌∷◌, ◌++◌, length, get_or, Some, None, Option}
+use Rattle.std.proofs.Common.{◌≡◌, ℕ, zero, suc, ◌+◌, ◌*◌, ◌/◌, ◌%◌, ◌^◌, ◌<◌, ◌≤◌, Bool, true, cond, ◌||◌, eqb, ltb, List, [], ◌∷◌, ◌++◌, length, get_or, Some, None, Option}
 use Rattle.std.specs.List.{range_with_len}
 use Rattle.shape.specs.Numbers.{blocks, level_slots}
 use Rattle.index.specs.Lists.{Rising}

@@ -1,15 +1,15 @@
 -- The script of a run: what each accepted call does to the host, told by index and without the permutations.
-use Rattle.std.proofs.Common.{ℕ, suc, ◌+◌, ◌*◌, ◌^◌, Bool, true, false, cond, eqb, ltb, leb, List, [], ◌∷◌, ◌++◌, map, length, take, Some, None}
+use Rattle.std.proofs.Common.{ℕ, suc, ◌+◌, ◌*◌, ◌^◌, Bool, true, false, cond, ltb, List, [], ◌∷◌, ◌++◌, map, length, Some, None}
 use Rattle.std.specs.List.{range_with_len, flat_map}
 use Rattle.shape.specs.Numbers.{level_slots, level_start, scratch_start, level_of_build, batch_slots}
 use Rattle.store.specs.declared.entry.Entry.{Entry}
 use Rattle.store.specs.Requests.{entry_of}
 use Rattle.permutations.specs.Scripts.{Act, ask, close, mark, Seen, asked, closed, marked}
-use Rattle.rules.specs.World.{Level, Client, World}
+use Rattle.rules.specs.World.{Client}
 use Rattle.rules.specs.Calls.{Call, load, access, rebuild}
 use Rattle.rules.specs.Checks.{verdict, rebuild_level, batches}
 use Rattle.rules.specs.Loading.{loaded_client}
-use Rattle.rules.specs.Accessing.{Ask, asks, accessed_client}
+use Rattle.rules.specs.Accessing.{asks, accessed_client}
 use Rattle.rules.specs.Rebuilding.{sources, rebuilt_client}
 
 -- what is public beside asks and closings: level L is loaded; the next ask begins a round; a gather begins; so many items go to scratch

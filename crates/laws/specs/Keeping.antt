@@ -12,7 +12,7 @@ use Rattle.rules.specs.Calls.{Call, load, access, rebuild, Answer, accepted, dec
 use Rattle.rules.specs.Opening.{Parts, opening}
 use Rattle.rules.specs.Checks.{rebuild_level}
 use Rattle.rules.specs.Slots.{block_slot, dummy_slot}
-use Rattle.rules.specs.Rebuilding.{Placed, gathered}
+use Rattle.rules.specs.Rebuilding.{gathered}
 use Rattle.rules.specs.Runs.{performed, after}
 use Rattle.laws.specs.Runs.{Choices}
 use Rattle.laws.specs.LatestWrite.{latest}

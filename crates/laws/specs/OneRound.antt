@@ -1,5 +1,5 @@
 -- One round, one slot in every occupied level, and no slot twice between builds.
-use Rattle.std.specs.Prelude.{◌≡◌, ℕ, ◌+◌, ◌<◌, ◌≤◌, Bool, true, false, List, [], ◌∷◌, ◌++◌, map, length, filter, ◌≢◌}
+use Rattle.std.specs.Prelude.{◌≡◌, ℕ, ◌+◌, ◌<◌, ◌≤◌, true, false, List, [], ◌∷◌, ◌++◌, map, length, filter, ◌≢◌}
 use Rattle.std.specs.List.{range_with_len}
 use Rattle.shape.specs.Numbers.{level_slots, level_start}
 use Rattle.store.specs.declared.entry.Entry.{Entry}

@@ -1,7 +1,6 @@
 -- A small run in which each number is given, most often to a call that has more than one fault.
 use Rattle.std.specs.Prelude.{◌≡◌, ℕ, List, [], ◌∷◌, map, length, replicate, Some, None}
 use Rattle.shape.specs.Refusals.{number_of}
-use Rattle.rules.specs.World.{World}
 use Rattle.rules.specs.Calls.{Call, load, access, rebuild, Answer, accepted, declined, entries_of}
 use Rattle.rules.specs.Opening.{Parts, opening}
 use Rattle.rules.specs.Slots.{block_slot}

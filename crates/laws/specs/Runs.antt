@@ -1,5 +1,5 @@
 -- Runs of a client that was opened without a refusal, under a choice of permutations; and what is public of its levels.
-use Rattle.std.specs.Prelude.{ℕ, zero, suc, ◌+◌, ◌*◌, ◌/◌, ◌%◌, Bool, true, false, cond, List, [], ◌∷◌, map, filter, ◌==◌}
+use Rattle.std.specs.Prelude.{ℕ, zero, suc, ◌/◌, ◌%◌, Bool, List, map, ◌==◌}
 use Rattle.std.specs.List.{range_with_len}
 use Rattle.shape.specs.Numbers.{level_slots, level_of_build}
 use Rattle.permutations.specs.Choices.{IsChoice}

@@ -1,9 +1,9 @@
 -- The correspondence of traces says something: where two lists do differ for the host, no choices hide it.
-use Rattle.std.specs.Prelude.{◌≡◌, ℕ, List, [], ◌∷◌, length, replicate, ◌≢◌}
+use Rattle.std.specs.Prelude.{ℕ, List, [], ◌∷◌, replicate, ◌≢◌}
 use Rattle.shape.specs.Numbers.{places_needed}
 use Rattle.rules.specs.World.{World}
-use Rattle.rules.specs.Calls.{Call, load, access, rebuild}
-use Rattle.rules.specs.Opening.{Parts, opening}
+use Rattle.rules.specs.Calls.{Call, load, access}
+use Rattle.rules.specs.Opening.{opening}
 use Rattle.rules.specs.Slots.{block_slot}
 use Rattle.rules.specs.Runs.{trace}
 use Rattle.laws.specs.Runs.{Choices}

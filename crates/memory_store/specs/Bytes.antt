@@ -1,5 +1,5 @@
 -- Bytes written over others.
-use Rattle.std.specs.Prelude.{◌≡◌, ℕ, suc, ◌+◌, ◌-◌, ◌*◌, ◌/◌, ◌<◌, ◌≤◌, true, List, [], ◌∷◌, ◌++◌, length, take, drop, slice_index, slice_index_or, slice_range, refl}
+use Rattle.std.specs.Prelude.{◌≡◌, ℕ, ◌+◌, ◌*◌, ◌/◌, ◌<◌, ◌≤◌, true, List, ◌++◌, length, take, drop, slice_index, slice_index_or, slice_range, refl}
 use Rattle.std.proofs.Common.{append_assoc, sym, ap, ◌∙◌, arith, add-zero, length-append, length-take, length-drop, drop-drop, get_or-drop, suc-mul, div-mul-le_self, add-one}
 use Rattle.std.proofs.lemmas.List.{drop_more}
 use Rattle.store.specs.Rounds.{inside}

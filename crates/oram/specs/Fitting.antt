@@ -1,5 +1,5 @@
 -- When a store, an index and a supply can serve a client of highest level L and width W.
-use Rattle.std.specs.Prelude.{ℕ, Bool, true, false, ◌&&◌, List, [], ◌∷◌, length, ◌==◌, nat_le}
+use Rattle.std.specs.Prelude.{ℕ, Bool, true, ◌&&◌, List, [], ◌∷◌, length, ◌==◌, nat_le}
 use Rattle.shape.specs.Numbers.{levels_fit, width_fits, places_needed}
 use Rattle.store.specs.State.{State}
 use Rattle.supply.specs.Choice.{Choice}

@@ -1,5 +1,5 @@
 -- Loading all blocks onto level L.
-use Rattle.std.specs.Prelude.{ℕ, suc, ◌+◌, ◌*◌, Bool, true, false, cond, List, map, length, take, drop, replicate, Ok, Err, Result, ◌==◌, nat_le, nat_lt, slice_set}
+use Rattle.std.specs.Prelude.{ℕ, ◌+◌, ◌*◌, true, cond, List, map, take, drop, replicate, Ok, Err, Result, ◌==◌, nat_le, nat_lt, slice_set}
 use Rattle.std.specs.List.{range_with_len}
 use Rattle.shape.specs.Numbers.{blocks, level_slots, level_start, dummy_key}
 use Rattle.shape.specs.declared.refusal.Refusal.{Refusal}

@@ -2,7 +2,7 @@
 use Rattle.std.specs.Prelude.{ℕ, ◌+◌, ◌*◌, List, []}
 use Rattle.shape.specs.declared.refusal.Refusal.{Refusal}
 use Rattle.store.specs.declared.entry.Entry.{Entry}
-use Rattle.store.specs.Requests.{Request, entries}
+use Rattle.store.specs.Requests.{Request}
 use Rattle.rules.specs.World.{World}
 
 -- Each brings a turn, and room for so many entries. There is one unloaded turn, numbered 0; the k-th resting turn is numbered 2k + 1,

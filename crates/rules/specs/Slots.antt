@@ -1,5 +1,5 @@
 -- What a slot holds, and rounds of one place.
-use Rattle.std.specs.Prelude.{ℕ, ◌+◌, ◌*◌, true, false, cond, ltb, List, length, get_or, take, drop, replicate}
+use Rattle.std.specs.Prelude.{ℕ, ◌*◌, true, false, List, take, drop, replicate}
 use Rattle.shape.specs.Numbers.{dummy_key}
 use Rattle.store.specs.State.{Slot}
 use Rattle.store.specs.Requests.{Request, entry_of}

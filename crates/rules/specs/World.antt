@@ -1,5 +1,5 @@
 -- What a client knows, and the world that it works in. Nothing here depends on a permutation but the slots of the store.
-use Rattle.std.specs.Prelude.{ℕ, Bool, true, false, List, [], length, get_or, Option}
+use Rattle.std.specs.Prelude.{ℕ, Bool, false, List, [], length, Option}
 use Rattle.shape.specs.declared.refusal.Refusal.{Refusal}
 use Rattle.store.specs.State.{Slot}
 

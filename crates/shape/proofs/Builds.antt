@@ -1,6 +1,6 @@
 -- The level of a build is what counting its trailing zero bits gives, cut to the levels there are.
-use Rattle.std.proofs.Common.{◌≡◌, ℕ, zero, suc, ◌+◌, ◌/◌, ◌%◌, ◌≤◌, min, sym, refl, ap, ◌∙◌, arith}
-use lib.Count.{under, count_trailing_zeros, trailing_le}
+use Rattle.std.proofs.Common.{◌≡◌, ℕ, zero, suc, ◌/◌, ◌%◌, ◌≤◌, min, refl, ap, ◌∙◌, arith}
+use lib.Count.{under, count_trailing_zeros}
 use Rattle.shape.specs.Numbers.{level_of_build}
 
 under_min : (d t k : ℕ) → min (suc k) (under d t) ≡ under d (min k t)

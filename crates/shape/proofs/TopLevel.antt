@@ -1,5 +1,5 @@
 -- The levels and the scratch area lie one after another within the places needed.
-use Rattle.std.proofs.Common.{◌≡◌, ℕ, suc, ◌+◌, ◌-◌, ◌*◌, ◌^◌, ◌<◌, ◌≤◌, pow-suc, add-one, arith, pow_mono}
+use Rattle.std.proofs.Common.{◌≡◌, ℕ, ◌+◌, ◌*◌, ◌<◌, ◌≤◌, pow-suc, add-one, arith, pow_mono}
 use Rattle.shape.specs.Numbers.{blocks, level_slots, level_start, places_needed}
 
 pub slots_double : (L : ℕ) → level_slots L ≡ 2 * blocks L

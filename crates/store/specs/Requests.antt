@@ -1,6 +1,6 @@
 -- What is asked of a store, one place at a time, and what becomes of the store. An entry is what the host sees of a request:
 -- whether it begins a round, whether it writes, and the place. A request is an entry with the slot that is given or taken.
-use Rattle.std.specs.Prelude.{ℕ, zero, suc, ◌+◌, ◌*◌, ◌%◌, ◌^◌, Bool, true, false, cond, List, [], ◌∷◌, map, length, slice_set}
+use Rattle.std.specs.Prelude.{ℕ, zero, suc, ◌+◌, ◌*◌, ◌%◌, ◌^◌, Bool, cond, List, [], ◌∷◌, map, length, slice_set}
 use Rattle.store.specs.declared.entry.Entry.{Entry}
 use Rattle.store.specs.State.{Slot, State}
 

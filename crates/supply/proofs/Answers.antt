@@ -1,10 +1,9 @@
 -- What a lawful supply answers to a question within it.
-use Rattle.std.proofs.Common.{◌≡◌, ℕ, ◌<◌, true, Ok, Err, sym, refl, ap, ◌∙◌, subst, arith}
+use Rattle.std.proofs.Common.{◌≡◌, ℕ, ◌<◌, true, Ok, ap}
 use Rattle.std.proofs.lemmas.Bool.{and_from, lt-ltb, cond-true}
-use Rattle.shape.specs.declared.refusal.Refusal.TheVariants.{BeyondSupply}
-use Rattle.shape.specs.Numbers.{level_slots, level_of_build}
+use Rattle.shape.specs.Numbers.{level_slots}
 use Rattle.shape.proofs.Builds.{build_zero}
-use Rattle.supply.specs.Choice.{Choice, Lawful, build_slots, within, slot_answer, index_answer}
+use Rattle.supply.specs.Choice.{Choice, build_slots, within, index_answer}
 
 pub within_true : (c : Choice) (b x : ℕ) → b < c.builds → x < build_slots c b → within c b x ≡ true
 within_true c b x h l = and_from _ _ (lt-ltb b c.builds h) (lt-ltb x (build_slots c b) l)

@@ -1,7 +1,7 @@
 -- Runs that the independent program made, with what it answered: written by `reference/compare/write`, and not by hand.
 use Rattle.std.specs.Prelude.{ℕ, true, false, List, [], ◌∷◌, replicate, Some, None}
 use Rattle.std.specs.List.{range_with_len}
-use Rattle.shape.specs.declared.refusal.Refusal.TheVariants.{OutOfRange, StoreUnfit, IndexOrSupplyUnfit, UnknownOperation, UnknownAddress, WrongByteLength, TraceTooShort, WrongTurn, BuildsUsedUp, NotOpened}
+use Rattle.shape.specs.declared.refusal.Refusal.TheVariants.{IndexOrSupplyUnfit, UnknownOperation, UnknownAddress, WrongByteLength, TraceTooShort, WrongTurn, BuildsUsedUp, NotOpened}
 use Rattle.store.specs.State.{Slot}
 use Rattle.store.specs.Requests.{entry_of}
 use Rattle.rules.specs.World.{Level, vacant}

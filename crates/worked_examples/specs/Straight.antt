@@ -1,11 +1,10 @@
 -- Runs with straight permutations, and what is read off them.
-use Rattle.std.specs.Prelude.{ℕ, suc, ◌+◌, ◌*◌, Bool, cond, List, [], ◌∷◌, map, length, replicate}
+use Rattle.std.specs.Prelude.{ℕ, List, [], ◌∷◌, map, length, replicate}
 use Rattle.std.specs.List.{range_with_len}
 use Rattle.shape.specs.Numbers.{level_slots, level_of_build, places_needed}
-use Rattle.store.specs.State.{Slot}
 use Rattle.rules.specs.World.{World}
-use Rattle.rules.specs.Calls.{Call, load, access, rebuild, Answer, accepted, declined}
-use Rattle.rules.specs.Opening.{Parts, opening}
+use Rattle.rules.specs.Calls.{Call, access, rebuild, Answer, accepted, declined}
+use Rattle.rules.specs.Opening.{opening}
 use Rattle.rules.specs.Slots.{block_slot}
 
 -- tables in which slot equals index, for K builds

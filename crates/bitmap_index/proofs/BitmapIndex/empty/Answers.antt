@@ -1,6 +1,5 @@
 use Rattle.std.proofs.Common.{◌≡◌, ℕ, List, [], length, get_or, vec_items, refl, ap, ◌∙◌, arith}
 use Rattle.std.proofs.lemmas.List.{with_items_is}
-use Rattle.index.specs.Lists.{cleared}
 use Rattle.bitmap_index.specs.Bitmap.{lists_of, past_last}
 use Rattle.bitmap_index.specs.Rows.{lists_clear}
 use Rattle.bitmap_index.proofs.Fields.{row_inside, write_at, fits_after, clear_refused, clear_accepted}

@@ -1,4 +1,3 @@
-use Rattle.std.proofs.Common.{rules}
 use Rattle.chacha20.specs.ChaCha20.{quarter_round}
 use Rattle.chacha20.proofs.rounds.quarter.Goals as goal
 

@@ -1,4 +1,4 @@
-use Rattle.std.proofs.Common.{ℕ, ◌-◌, ◌*◌, ◌/◌, ◌%◌, ◌^◌, ◌∙◌, ap₂, arith}
+use Rattle.std.proofs.Common.{ℕ, ◌*◌, ◌/◌, ◌%◌, ◌^◌, ◌∙◌, ap₂, arith}
 use lib.Bits.{bit_or}
 use Rattle.chacha20.specs.ChaCha20.{rolled}
 use Rattle.chacha20.proofs.rounds.roll.Goals as goal

@@ -1,4 +1,4 @@
-use Rattle.std.proofs.Common.{◌≡◌, ◌+◌, ◌≤◌, length, refl, ap, ◌∙◌, arith, rules}
+use Rattle.std.proofs.Common.{length, ◌∙◌, arith, rules}
 use Rattle.joined_store.specs.Lists.{merge_begins, merge_room, merge_more, merge_all}
 use Rattle.joined_store.proofs.picks.merge.Goals as goal
 

@@ -1,4 +1,4 @@
-use Rattle.std.proofs.Common.{◌≡◌, ◌+◌, ◌*◌, ◌≤◌, ◌++◌, length, take, drop}
+use Rattle.std.proofs.Common.{◌≡◌, ◌+◌, ◌*◌, ◌++◌, length, take, drop}
 use Rattle.std.specs.List.{between}
 use Rattle.joined_store.specs.declared.part.Part.TheVariants.{First, Second}
 use Rattle.joined_store.specs.Joined.{places_in}

@@ -1,5 +1,4 @@
-use Rattle.std.proofs.Common.{◌≡◌, ℕ, ◌+◌, ◌*◌, ◌≤◌, length, sym, ap, ◌∙◌, subst, arith}
-use Rattle.store.specs.State.{State}
+use Rattle.std.proofs.Common.{◌+◌, length, ap, ◌∙◌, arith}
 use Rattle.store.specs.Requests.{ran}
 use Rattle.store.specs.Rounds.{fetch_round}
 use Rattle.joined_store.specs.declared.part.Part.TheVariants.{First, Second}

@@ -1,4 +1,4 @@
-use Rattle.std.proofs.Common.{◌≡◌, ◌*◌, ◌≤◌, length, sym, ap, ◌∙◌, zero-mul, arith}
+use Rattle.std.proofs.Common.{◌*◌, ◌≤◌, length, sym, ap, ◌∙◌, zero-mul, arith}
 use Rattle.std.proofs.lemmas.List.{nil_from_length}
 use Rattle.store.specs.Requests.{ran}
 use Rattle.store.specs.Rounds.{fetch_round, keys_at, bytes_at}

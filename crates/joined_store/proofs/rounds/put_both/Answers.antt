@@ -1,9 +1,5 @@
-use Rattle.std.proofs.Common.{◌≡◌, ℕ, ◌*◌, length, sym, ap, ◌∙◌, subst}
-use Rattle.store.specs.State.{State}
-use Rattle.store.specs.Requests.{ran}
-use Rattle.store.specs.Rounds.{put_round}
+use Rattle.std.proofs.Common.{ℕ, ◌*◌, length, sym, ap, ◌∙◌, subst}
 use Rattle.joined_store.specs.declared.part.Part.TheVariants.{First, Second}
-use Rattle.joined_store.specs.Joined.{places_in, items_in}
 use Rattle.joined_store.specs.Inner.{Shares}
 use Rattle.joined_store.specs.States.{joins_facts, accepted, shares_first, shares_second}
 use Rattle.joined_store.proofs.rounds.put_both.Goals as goal

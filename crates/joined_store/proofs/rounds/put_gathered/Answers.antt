@@ -1,4 +1,4 @@
-use Rattle.std.proofs.Common.{◌≡◌, ℕ, ◌*◌, ◌≤◌, true, List, length, sym, ap, ◌∙◌, subst, mul-one, arith}
+use Rattle.std.proofs.Common.{◌≡◌, ℕ, ◌*◌, true, List, length, sym, ap, ◌∙◌, subst, mul-one, arith}
 use Rattle.store.specs.State.{State}
 use Rattle.store.specs.Requests.{ran}
 use Rattle.store.specs.Rounds.{inside, put_round}

@@ -1,4 +1,4 @@
-use Rattle.std.proofs.Common.{◌≡◌, ℕ, ◌-◌, ◌*◌, ◌≤◌, List, length, take, sym, ap, ◌∙◌, subst, mul-le-mul_right, mul-one, arith, rules}
+use Rattle.std.proofs.Common.{◌≡◌, ℕ, ◌-◌, ◌*◌, ◌≤◌, List, length, take, sym, ap, ◌∙◌, mul-le-mul_right, mul-one, arith}
 use Rattle.store.specs.State.{State}
 use Rattle.store.specs.Requests.{ran}
 use Rattle.store.specs.Rounds.{put_round}

@@ -1,6 +1,6 @@
-use Rattle.std.proofs.Common.{◌≡◌, ℕ, sym, ap, ◌∙◌, subst}
+use Rattle.std.proofs.Common.{ℕ, sym, ap, ◌∙◌, subst}
 use Rattle.keyed_supply.specs.Keyed.{network}
-use Rattle.keyed_supply.specs.Rounds.{back_odd, back, left_half, right_half, joined}
+use Rattle.keyed_supply.specs.Rounds.{back_odd, back, joined}
 use Rattle.keyed_supply.specs.Undoing.{back_kept, Kept}
 use Rattle.keyed_supply.specs.Widths.{within_numbers}
 use Rattle.keyed_supply.proofs.rounds.back.Goals as goal

@@ -1,6 +1,6 @@
-use Rattle.std.proofs.Common.{◌≡◌, ℕ, sym, ap, ◌∙◌, subst}
+use Rattle.std.proofs.Common.{ℕ, sym, ap, ◌∙◌, subst}
 use Rattle.keyed_supply.specs.Keyed.{network}
-use Rattle.keyed_supply.specs.Rounds.{from_even, forth, left_half, right_half, joined}
+use Rattle.keyed_supply.specs.Rounds.{from_even, forth, joined}
 use Rattle.keyed_supply.specs.Undoing.{forth_kept, Kept}
 use Rattle.keyed_supply.specs.Widths.{within_numbers}
 use Rattle.keyed_supply.proofs.rounds.forth.Goals as goal

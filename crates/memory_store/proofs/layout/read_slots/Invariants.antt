@@ -1,4 +1,4 @@
-use Rattle.std.proofs.Common.{◌≡◌, ◌*◌, map, take}
+use Rattle.std.proofs.Common.{◌≡◌, ◌*◌, take}
 use Rattle.store.specs.Rounds.{keys_at, bytes_at}
 use Rattle.memory_store.specs.Memory.{decoded}
 use Rattle.memory_store.proofs.layout.read_slots.Given as goal

@@ -1,4 +1,4 @@
-use Rattle.std.proofs.Common.{◌≡◌, ◌+◌, ◌++◌, length, ap, ◌∙◌, arith}
+use Rattle.std.proofs.Common.{◌≡◌, ◌++◌, length, ap, ◌∙◌, arith}
 use Rattle.memory_store.specs.Memory.{overwritten, key_bytes}
 use Rattle.memory_store.specs.Bytes.{two_writes}
 use Rattle.memory_store.proofs.layout.write_slot.Goals as goal

@@ -1,4 +1,4 @@
-use Rattle.std.proofs.Common.{◌≡◌, ◌≤◌, [], ◌∷◌, map, length, set, sym, ap, ◌∙◌, arith}
+use Rattle.std.proofs.Common.{◌≡◌, [], ◌∷◌, map, length, set, ap, ◌∙◌, arith}
 use lib.Seq.{sets}
 use Rattle.std.specs.List.{range_with_len}
 use Rattle.shape.specs.Numbers.{level_slots}

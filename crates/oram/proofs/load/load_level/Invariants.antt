@@ -1,4 +1,4 @@
-use Rattle.std.proofs.Common.{◌≡◌, ◌≤◌, map}
+use Rattle.std.proofs.Common.{◌≡◌, map}
 use lib.Seq.{sets}
 use Rattle.std.specs.List.{range_with_len}
 use Rattle.store.specs.Requests.{ran, entries}

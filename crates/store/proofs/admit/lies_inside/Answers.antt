@@ -1,4 +1,4 @@
-use Rattle.std.proofs.Common.{sym, ◌∙◌, arith, rules}
+use Rattle.std.proofs.Common.{sym, ◌∙◌, arith}
 use Rattle.store.proofs.Rounds.{inside_more, inside_fails, inside_all}
 use Rattle.store.proofs.admit.lies_inside.Goals as goal
 

@@ -1,6 +1,5 @@
-use Rattle.std.proofs.Common.{◌≡◌, [], ◌++◌, length, sym, ap, ◌∙◌}
+use Rattle.std.proofs.Common.{[], ◌++◌, length, sym, ap, ◌∙◌}
 use Rattle.std.proofs.lemmas.Bool.{cond-true}
-use Rattle.store.specs.State.{State}
 use Rattle.store.specs.Rounds.{keys_at, bytes_at}
 use Rattle.joined_store.specs.Joined.{joins}
 use Rattle.joined_store.specs.Whole.{state_of}

@@ -1,4 +1,4 @@
-use Rattle.std.proofs.Common.{◌≡◌, ◌*◌, length, sym, ap, ◌∙◌}
+use Rattle.std.proofs.Common.{length, sym, ◌∙◌}
 use Rattle.joined_store.specs.Whole.{state_of}
 use Rattle.joined_store.specs.States.{admitted, joined_accepts, accepted, after_put}
 use Rattle.joined_store.proofs.serve.JoinedStoreStore.put.Goals as goal

@@ -1,4 +1,4 @@
-use Rattle.std.proofs.Common.{length, sym, ap, ◌∙◌, arith}
+use Rattle.std.proofs.Common.{length, ap, ◌∙◌, arith}
 use Rattle.store.specs.Rounds.{keys_at, bytes_at}
 use Rattle.memory_store.specs.Memory.{decoded}
 use Rattle.memory_store.proofs.Meanings.{accepted, span_small}
