@@ -244,7 +244,6 @@ fn slot_number(answer: Result<u32, Refusal>) -> u32 {
 
 #[test]
 fn questions_to_a_supply(rt: HostRuntime) -> Result<(), Fail> {
-    let _ = rt;
     let mut supply = Straight::new(2)?;
     assert_eq!(rt; supply.builds(), 1_000_000);
     assert_eq!(rt; slot_number(supply.slot_of(0, 7)), 7);

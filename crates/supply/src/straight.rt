@@ -3,7 +3,7 @@ ghost use Rattle.std.specs.Prelude.{◌≡◌, ◌≤◌, true, false, Ok, Err};
 ghost use Rattle.shape.specs.Numbers.{levels_fit};
 ghost use Rattle.supply.specs.Choice.{slot_answer};
 ghost use Rattle.supply.specs.Straight.{straight};
-ghost use Rattle.std.proofs.Common.{rules, arith};
+ghost use Rattle.std.proofs.Common.{rules};
 
 use crate::supply::Supply;
 use shape::numbers;
@@ -46,7 +46,7 @@ impl Straight {
 impl Supply for Straight {
     ghost choice = { λ s. straight s.levels };
 
-    ghost lawful = { first_of (Prim.search rules, Prim.grind (arith, Self.row.coded.inj)) };
+    ghost lawful = { Prim.search rules };
 
     fn levels(&self) -> u32 {
         self.levels
