@@ -1,14 +1,24 @@
 // Why a part of a client was not made: a refusal, or want of memory.
 ghost use Rattle.std.specs.Prelude.{◌≡◌};
-ghost use Rattle.shape.specs.declared.make_error.MakeError.TheVariants.{NoMemory};
+ghost use Rattle.shape.specs.declared.make_error.MakeError.TheVariants.{Refused, NoMemory};
 
 use crate::refusal::Refusal;
 use std::alloc::AllocError;
+use std::error::Error;
+use std::fmt;
 
 #[derive(Clone, Copy, PartialEq, Eq, Debug)]
 pub enum MakeError {
     Refused(Refusal),
     NoMemory,
+}
+
+impl From<Refusal> for MakeError {
+    ghost from_gives = { λ refusal r. r ≡ Refused refusal };
+
+    fn from(refusal: Refusal) -> MakeError {
+        MakeError::Refused(refusal)
+    }
 }
 
 impl From<AllocError> for MakeError {
@@ -18,3 +28,14 @@ impl From<AllocError> for MakeError {
         MakeError::NoMemory
     }
 }
+
+impl fmt::Display for MakeError {
+    fn fmt<W: fmt::Write>(&self, f: &mut fmt::Formatter<W>) -> fmt::Result {
+        match self {
+            MakeError::Refused(why) => write!(f, "{why}"),
+            MakeError::NoMemory => write!(f, "no memory"),
+        }
+    }
+}
+
+impl Error for MakeError {}

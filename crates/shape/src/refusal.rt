@@ -2,50 +2,35 @@
 ghost use Rattle.std.specs.Prelude.{◌≡◌};
 ghost use Rattle.shape.specs.Refusals.{number_of, meaning_of};
 
+use std::error::Error;
+use std::fmt;
+
 #[derive(Clone, Copy, PartialEq, Eq, Debug)]
 pub enum Refusal {
-    OutOfRange,
-    StoreUnfit,
-    IndexOrSupplyUnfit,
-    UnknownOperation,
-    UnknownAddress,
-    WrongByteLength,
-    TraceTooShort,
-    WrongTable,
-    WrongRound,
-    PlaceBeyondStore,
-    WrongListChange,
-    BeyondSupply,
-    UnreadableLine,
-    WrongTurn,
-    BuildsUsedUp,
-    NotOpened,
-    UnfitLetter,
+    OutOfRange = 1,
+    StoreUnfit = 2,
+    IndexOrSupplyUnfit = 3,
+    UnknownOperation = 4,
+    UnknownAddress = 5,
+    WrongByteLength = 6,
+    TraceTooShort = 7,
+    WrongTable = 8,
+    WrongRound = 9,
+    PlaceBeyondStore = 10,
+    WrongListChange = 11,
+    BeyondSupply = 12,
+    UnreadableLine = 13,
+    WrongTurn = 14,
+    BuildsUsedUp = 15,
+    NotOpened = 16,
+    UnfitLetter = 17,
 }
 
 impl Refusal {
     pub fn number(self) -> u32
         ensures { result ≡ number_of self }
     {
-        match self {
-            Refusal::OutOfRange => 1,
-            Refusal::StoreUnfit => 2,
-            Refusal::IndexOrSupplyUnfit => 3,
-            Refusal::UnknownOperation => 4,
-            Refusal::UnknownAddress => 5,
-            Refusal::WrongByteLength => 6,
-            Refusal::TraceTooShort => 7,
-            Refusal::WrongTable => 8,
-            Refusal::WrongRound => 9,
-            Refusal::PlaceBeyondStore => 10,
-            Refusal::WrongListChange => 11,
-            Refusal::BeyondSupply => 12,
-            Refusal::UnreadableLine => 13,
-            Refusal::WrongTurn => 14,
-            Refusal::BuildsUsedUp => 15,
-            Refusal::NotOpened => 16,
-            Refusal::UnfitLetter => 17,
-        }
+        self as u32
     }
 
     pub fn meaning(self) -> &'static str
@@ -73,3 +58,11 @@ impl Refusal {
         }
     }
 }
+
+impl fmt::Display for Refusal {
+    fn fmt<W: fmt::Write>(&self, f: &mut fmt::Formatter<W>) -> fmt::Result {
+        write!(f, "refused by number {}: {}", self.number(), self.meaning())
+    }
+}
+
+impl Error for Refusal {}

@@ -8,15 +8,6 @@ use Rattle.store.specs.Rounds.{inside, marked, round, fetching, fetch_round, put
 
 -- ---- every place lies inside
 
-pub inside_more : (n : ℕ) (ps : List ℕ) (i : ℕ) → i < length ps → get_or ps i 0 < n → inside n (drop (i + 1) ps) ≡ inside n (drop i ps)
-inside_more n ps i h lt = rw (drop_more ps i 0 h, lt-ltb (get_or ps i 0) n lt) refl
-
-pub inside_fails : (n : ℕ) (ps : List ℕ) (i : ℕ) → i < length ps → n ≤ get_or ps i 0 → inside n (drop i ps) ≡ false
-inside_fails n ps i h le = rw (drop_more ps i 0 h, le-ltb (get_or ps i 0) n le) refl
-
-pub inside_all : (n : ℕ) (ps : List ℕ) (i : ℕ) → length ps ≤ i → inside n (drop i ps) ≡ true
-inside_all n ps i h = rw (drop_all i ps h) refl
-
 pub inside_at : (n : ℕ) (ps : List ℕ) (i : ℕ) → inside n ps ≡ true → i < length ps → get_or ps i 0 < n
 inside_at n [] i h l = omega arith
 inside_at n (p ∷ ps) zero h l = ltb-true p n (and_parts (ltb p n) (inside n ps) h).0

@@ -7,21 +7,13 @@ use shape::refusal::Refusal;
 fn is_well_formed(width: usize, places: usize, keys: usize, bytes: usize) -> bool
     ensures { result ≡ well_formed width places keys bytes }
 {
-    let Some(needed) = places.checked_mul(width) else {
-        return false;
-    };
-    1 <= places && places <= 13 && keys == places && bytes == needed
+    (1..=13).contains(&places) && keys == places && places.checked_mul(width) == Some(bytes)
 }
 
 fn lies_inside(count: u32, places: &[u32]) -> bool
     ensures { result ≡ inside count places.now }
 {
-    for p in places {
-        if *p >= count {
-            return false;
-        }
-    }
-    true
+    places.iter().all(|&place| place < count)
 }
 
 pub fn admit(

@@ -4,5 +4,4 @@
 pub mod admit;
 pub mod entry;
 pub mod meter;
-mod readings;
 pub mod store;

@@ -6,16 +6,10 @@ ghost use Rattle.store.specs.Rule.{multiplied};
 
 use crate::entry::Entry;
 
-#[derive(Drop)]
+#[derive(Drop, PartialEq, Eq, Debug)]
 pub struct Meter {
-    pub(crate) served: u64,
-    pub(crate) trail: u64,
-}
-
-fn mark_of(e: Entry) -> u64
-    ensures { result ≡ mark e }
-{
-    4 * u64::from(e.place) + 2 * u64::from(e.begins) + u64::from(e.write)
+    served: u64,
+    trail: u64,
 }
 
 impl Meter {
@@ -29,12 +23,17 @@ impl Meter {
         }
     }
 
-    fn note(&mut self, e: Entry)
+    fn note(&mut self, entry: Entry)
         ensures served { self.new.served ≡ (self.old.served + 1) % 2 ^ 64 }
-        ensures trail { self.new.trail ≡ multiplied self.old.trail (mark e) }
+        ensures trail { self.new.trail ≡ multiplied self.old.trail (mark entry) }
     {
-        self.served = self.served.wrapping_add(1);
-        self.trail = self.trail.wrapping_mul(16_777_619).wrapping_add(mark_of(e));
+        *self = Meter {
+            served: self.served.wrapping_add(1),
+            trail: self
+                .trail
+                .wrapping_mul(16_777_619)
+                .wrapping_add(entry.mark()),
+        };
     }
 
     // Runs through one round.
@@ -43,13 +42,25 @@ impl Meter {
         ensures trail { self.new.trail ≡ trailed multiplied self.old.trail (round write places.now) }
     {
         let mut begins = true;
-        for p in places {
+        for &place in places {
             self.note(Entry {
                 begins,
                 write,
-                place: *p,
+                place,
             });
             begins = false;
         }
+    }
+
+    pub fn served(&self) -> u64
+        ensures { result ≡ self.now.served }
+    {
+        self.served
+    }
+
+    pub fn trail(&self) -> u64
+        ensures { result ≡ self.now.trail }
+    {
+        self.trail
     }
 }

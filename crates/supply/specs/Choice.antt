@@ -26,9 +26,12 @@ pub record Lawful (c : Choice) : Type 0 where
   pub index_undoes_slot : (b i : ℕ) → b < c.builds → i < build_slots c b → c.index_of b (c.slot_of b i) ≡ i
   pub slot_undoes_index : (b s : ℕ) → b < c.builds → s < build_slots c b → c.slot_of b (c.index_of b s) ≡ s
 
--- a question lies within the supply
+-- a question lies within a supply of this L and K
+abbrev pub asked_within : ℕ → ℕ → ℕ → ℕ → Bool
+asked_within L K b x = nat_lt b K && nat_lt x (level_slots (level_of_build L b))
+
 abbrev pub within : Choice → ℕ → ℕ → Bool
-within c b x = nat_lt b c.builds && nat_lt x (build_slots c b)
+within c b x = asked_within c.levels c.builds b x
 
 -- the answers to the two questions
 abbrev pub slot_answer : Choice → ℕ → ℕ → Result ℕ Refusal

@@ -1,55 +1,48 @@
 // The straight supply: every slot is its own index.
-ghost use Rattle.std.specs.Prelude.{◌≡◌, ◌≤◌, true, false, Ok, Err};
+ghost use Rattle.std.specs.Prelude.{◌≡◌, ◌≤◌, true, false, MatchResult};
 ghost use Rattle.shape.specs.Numbers.{levels_fit};
 ghost use Rattle.supply.specs.Choice.{slot_answer};
 ghost use Rattle.supply.specs.Straight.{straight};
 ghost use Rattle.std.proofs.Common.{rules};
 
 use crate::supply::Supply;
-use shape::numbers;
+use crate::within;
+use shape::level::Level;
 use shape::refusal::Refusal;
 
 #[derive(Drop)]
 pub struct Straight {
-    levels: u32,
-    ghost low: { 1 ≤ levels },
-    ghost high: { levels ≤ 12 },
+    levels: Level,
+    ghost low: { 1 ≤ levels.number },
 }
 
 const BUILDS: u32 = 1_000_000;
 
 impl Straight {
     pub fn new(levels: u32) -> Result<Straight, Refusal>
-        ensures { elim result [ Ok s ↦ (levels_fit levels ≡ true) × (s.levels ≡ levels) | Err e ↦ (levels_fit levels ≡ false) × (e ≡ Refusal.OutOfRange) ] }
+        ensures { MatchResult result (λ s. (levels_fit levels ≡ true) × (s.levels.number ≡ levels)) (λ e. (levels_fit levels ≡ false) × (e ≡ Refusal.OutOfRange)) }
     {
-        if !numbers::fits_levels(levels) {
-            return Err(Refusal::OutOfRange);
-        }
-        Ok(Straight { levels })
+        Ok(Straight {
+            levels: Level::highest(levels)?,
+        })
     }
 
     // A number that lies within a build is its own partner.
     fn partner(&self, build: u32, number: u32) -> Result<u32, Refusal>
-        ensures { result ≡ slot_answer (straight self.now.levels) build number }
+        ensures { result ≡ slot_answer (straight self.now.levels.number) build number }
     {
-        if build >= BUILDS {
-            return Err(Refusal::BeyondSupply);
-        }
-        let slots = numbers::slots_of_level(numbers::build_level(self.levels, build));
-        if number >= slots {
-            return Err(Refusal::BeyondSupply);
-        }
+        within::level_of(self.levels, BUILDS, build, number)?;
         Ok(number)
     }
 }
 
 impl Supply for Straight {
-    ghost choice = { λ s. straight s.levels };
+    ghost choice = { λ s. straight s.levels.number };
 
     ghost lawful = { Prim.search rules };
 
     fn levels(&self) -> u32 {
-        self.levels
+        self.levels.number
     }
 
     fn builds(&self) -> u32 {
