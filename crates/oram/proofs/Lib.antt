@@ -1,3 +1,2 @@
-pub mod Emptiness
 pub mod Loads
 pub mod Suits

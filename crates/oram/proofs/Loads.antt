@@ -1,5 +1,5 @@
 -- What a load needs of its parts, and its slots one by one.
-use Rattle.std.proofs.Common.{◌≡◌, ℕ, ◌-◌, ◌<◌, ◌≤◌, ltb, List, take, replicate, Ok, sym, ap, ◌∙◌, subst, arith}
+use Rattle.std.proofs.Common.{◌≡◌, ℕ, ◌<◌, ◌≤◌, ltb, List, take, replicate, Ok, sym, ap, ◌∙◌, subst, arith}
 use Rattle.std.proofs.lemmas.List.{take-replicate}
 use Rattle.std.proofs.lemmas.Bool.{cond-false, le-ltb}
 use Rattle.shape.specs.Numbers.{blocks, level_slots, dummy_key}
@@ -17,10 +17,9 @@ first_index c lawful L s e h =
     (index_answered c 0 s some below, subst (λ n. c.index_of 0 s < n) size (lawful.index_below 0 s some below))
 
 -- the slot of a dummy, from the zeros that lie ready
-pub dummy_loaded : (L W : ℕ) (bs zs : List ℕ) (i k : ℕ) → blocks L ≤ i → W ≤ 512 → k ≡ dummy_key i → zs ≡ replicate 512 0 → ◌≡◌ {A = Slot} (record { key = k; bytes = take (W - 0) zs }) (loaded_slot L W bs i)
+pub dummy_loaded : (L W : ℕ) (bs zs : List ℕ) (i k : ℕ) → blocks L ≤ i → W ≤ 512 → k ≡ dummy_key i → zs ≡ replicate 512 0 → ◌≡◌ {A = Slot} (record { key = k; bytes = take W zs }) (loaded_slot L W bs i)
 dummy_loaded L W bs zs i k beyond narrow key zeros =
-    let width : W - 0 ≡ W = omega arith in
-    let payload : take (W - 0) zs ≡ replicate W 0 = ap (λ n. take n zs) width ∙ ap (take W) zeros ∙ take-replicate W 512 0 narrow in
-    ap (λ j. record { key = j; bytes = take (W - 0) zs }) key
+    let payload : take W zs ≡ replicate W 0 = ap (take W) zeros ∙ take-replicate W 512 0 narrow in
+    ap (λ j. record { key = j; bytes = take W zs }) key
     ∙ ap (λ l. record { key = dummy_key i; bytes = l }) payload
     ∙ sym (cond-false (ltb i (blocks L)) (block_slot W bs i) (dummy_slot W i) (le-ltb i (blocks L) beyond))

@@ -1,5 +1,5 @@
 // The client itself, and the questions that change nothing.
-ghost use Rattle.std.specs.Prelude.{◌≡◌, length};
+ghost use Rattle.std.specs.Prelude.{◌≡◌};
 ghost use Rattle.oram.specs.Questions.{record_answer};
 
 use crate::record::{Record, Table};
@@ -8,7 +8,8 @@ use shape::refusal::Refusal;
 use store::store::Store;
 use supply::supply::Supply;
 
-// What the client knows by itself: how it was opened, its turn number, the accesses so far, and a record for each level.
+// What the client knows by itself: how it was opened, its turn number, the accesses so far, and a record for each level. L and W stand
+// beside a refusal too, since such a client answers for the levels up to its L as well.
 #[derive(Clone, Copy)]
 pub struct Core {
     pub(crate) refusal: Option<Refusal>,
@@ -24,7 +25,6 @@ pub struct Client<S: Store, I: Index, P: Supply> {
     pub(crate) index: I,
     pub(crate) supply: P,
     pub(crate) core: Core,
-    ghost long: { length core.table.records ≡ 13 },
 }
 
 impl<S: Store, I: Index, P: Supply> Client<S, I, P> {
@@ -46,10 +46,10 @@ impl<S: Store, I: Index, P: Supply> Client<S, I, P> {
     pub fn record(&self, level: u32) -> Option<Record>
         ensures { result ≡ record_answer self.now.core level }
     {
-        if level > self.core.levels || level > 12 {
+        if level > self.core.levels {
             return None;
         }
-        Some(self.core.table.get(level))
+        self.core.table.records.get(level as usize).copied()
     }
 
     pub fn store(&self) -> &S

@@ -1,14 +1,14 @@
 // Opening a client.
-ghost use Rattle.std.specs.Prelude.{◌≡◌, ◌<◌, ◌≤◌, length, ◌==◌};
-ghost use Rattle.index.specs.Lists.{list_at};
-ghost use Rattle.oram.specs.Fitting.{in_range, store_suits, made_for, suits, all_empty};
+ghost use Rattle.std.specs.Prelude.{◌≡◌, true, false, None, Some, MatchResult, MatchOption};
+ghost use Rattle.oram.specs.Fitting.{store_suits, made_for, suits, all_empty};
 ghost use Rattle.oram.specs.Opening.{opening_refusal, opened, stands, unrefused};
 
 use crate::client::{Client, Core};
+use crate::record::Table;
 use crate::turn::Unloaded;
-use crate::{record, turn};
 use index::Index;
-use shape::numbers;
+use shape::dimensions::Dimensions;
+use shape::level::Level;
 use shape::refusal::Refusal;
 use store::store::Store;
 use supply::supply::Supply;
@@ -20,85 +20,47 @@ pub struct Opening<S: Store, I: Index, P: Supply> {
     pub refusal: Option<Refusal>,
 }
 
-fn is_in_range(levels: u32, width: usize) -> bool
-    ensures { result ≡ in_range levels width }
+fn suits_store<S: Store>(dimensions: Dimensions, store: &S) -> bool
+    ensures { result ≡ store_suits dimensions.levels.number dimensions.width (S.state store.now) }
 {
-    numbers::fits_levels(levels) && numbers::fits_width(width)
+    store.width() == dimensions.width && dimensions.levels.places_needed() <= store.places()
 }
 
-fn suits_store<S: Store>(levels: u32, width: usize, store: &S) -> bool
-    requires { levels ≤ 12 }
-    ensures { result ≡ store_suits levels width (S.state store.now) }
+fn is_made_for<I: Index, P: Supply>(levels: Level, index: &I, supply: &P) -> bool
+    ensures { result ≡ made_for levels.number (I.lists index.now) (P.choice supply.now) }
 {
-    store.width() == width && numbers::needed_places(levels) <= store.places()
-}
-
-fn is_made_for<I: Index, P: Supply>(levels: u32, index: &I, supply: &P) -> bool
-    ensures { result ≡ made_for levels (I.lists index.now) (P.choice supply.now) }
-{
-    index.levels() == levels && supply.levels() == levels
-}
-
-fn is_list_empty<I: Index>(index: &I, level: u32) -> bool
-    requires { level < length (I.lists index.now) }
-    ensures { result ≡ (length (list_at (I.lists index.now) level) == 0) }
-{
-    match index.size(level) {
-        Some(size) => size == 0,
-        None => unreachable(),
-    }
+    index.levels() == levels.number && supply.levels() == levels.number
 }
 
 fn is_empty<I: Index>(index: &I) -> bool
     ensures { result ≡ all_empty (I.lists index.now) }
 {
     for level in 0..index.levels() {
-        if !is_list_empty(index, level) {
+        if index.size(level) != Some(0) {
             return false;
         }
     }
     true
 }
 
-// Why a client is opened with a refusal.
-fn refusal_at_opening<S: Store, I: Index, P: Supply>(
+// Checks what a client is to be opened with.
+fn check_parts<S: Store, I: Index, P: Supply>(
     levels: u32,
     width: usize,
     store: &S,
     index: &I,
     supply: &P,
-) -> Option<Refusal>
-    ensures { result ≡ opening_refusal levels width (S.state store.now) (I.lists index.now) (P.choice supply.now) }
+) -> Result<(), Refusal>
+    ensures { MatchResult result (λ _. opening_refusal levels width (S.state store.now) (I.lists index.now) (P.choice supply.now) ≡ None) (λ e. opening_refusal levels width (S.state store.now) (I.lists index.now) (P.choice supply.now) ≡ Some e) }
 {
-    if !is_in_range(levels, width) {
-        return Some(Refusal::OutOfRange);
+    let dimensions = Dimensions::new(levels, width)?;
+    if !suits_store(dimensions, store) {
+        return Err(Refusal::StoreUnfit);
     }
-    if !suits_store(levels, width, store) {
-        return Some(Refusal::StoreUnfit);
+    if !is_made_for(dimensions.levels, index, supply) || !is_empty(index) {
+        return Err(Refusal::IndexOrSupplyUnfit);
     }
-    if !is_made_for(levels, index, supply) {
-        return Some(Refusal::IndexOrSupplyUnfit);
-    }
-    if !is_empty(index) {
-        return Some(Refusal::IndexOrSupplyUnfit);
-    }
-    None
-}
-
-// Whether the parts of a client serve it.
-pub(crate) fn suits_parts<S: Store, I: Index, P: Supply>(
-    levels: u32,
-    width: usize,
-    store: &S,
-    index: &I,
-    supply: &P,
-) -> bool
-    ensures { result ≡ suits levels width (S.state store.now) (I.lists index.now) (P.choice supply.now) }
-{
-    if !is_in_range(levels, width) {
-        return false;
-    }
-    suits_store(levels, width, store) && is_made_for(levels, index, supply)
+    Ok(())
 }
 
 impl<S: Store, I: Index, P: Supply> Client<S, I, P> {
@@ -110,14 +72,14 @@ impl<S: Store, I: Index, P: Supply> Client<S, I, P> {
         ensures turn { result.turn.number ≡ 0 }
         ensures stands { stands result.client.core (S.state result.client.store) (I.lists result.client.index) (P.choice result.client.supply) ≡ unrefused result.refusal }
     {
-        let refusal = refusal_at_opening(levels, width, &store, &index, &supply);
+        let refusal = check_parts(levels, width, &store, &index, &supply).err();
         let core = Core {
             refusal,
             levels,
             width,
             number: 0,
             accesses: 0,
-            table: record::vacant_table(),
+            table: Table::vacant(),
         };
         Opening {
             client: Client {
@@ -126,24 +88,26 @@ impl<S: Store, I: Index, P: Supply> Client<S, I, P> {
                 supply,
                 core,
             },
-            turn: turn::first_turn(),
+            turn: Unloaded::first(),
             refusal,
         }
     }
 
-    // Whether it was opened without a refusal. Its parts are asked again: width, places and levels never change.
-    pub(crate) fn stands_now(&self) -> bool
-        ensures { result ≡ stands self.now.core (S.state self.now.store) (I.lists self.now.index) (P.choice self.now.supply) }
+    // Its dimensions, where it was opened without a refusal. Its parts are asked again: width, places and levels never change.
+    pub(crate) fn dimensions(&self) -> Result<Dimensions, Refusal>
+        ensures { MatchResult result (λ d. (stands self.now.core (S.state self.now.store) (I.lists self.now.index) (P.choice self.now.supply) ≡ true) × (d.levels.number ≡ self.now.core.levels) × (d.width ≡ self.now.core.width)) (λ e. (stands self.now.core (S.state self.now.store) (I.lists self.now.index) (P.choice self.now.supply) ≡ false) × (e ≡ Refusal.NotOpened)) }
     {
-        match self.core.refusal {
-            Some(_) => false,
-            None => suits_parts(
-                self.core.levels,
-                self.core.width,
-                &self.store,
-                &self.index,
-                &self.supply,
-            ),
+        if self.core.refusal.is_some() {
+            return Err(Refusal::NotOpened);
         }
+        let dimensions = Dimensions::new(self.core.levels, self.core.width).map_err(
+            |_| Refusal::NotOpened,
+        )?;
+        if !suits_store(dimensions, &self.store)
+            || !is_made_for(dimensions.levels, &self.index, &self.supply)
+        {
+            return Err(Refusal::NotOpened);
+        }
+        Ok(dimensions)
     }
 }

@@ -1,8 +1,11 @@
 // What the client keeps of each level.
-ghost use Rattle.std.specs.Prelude.{◌≡◌, ◌<◌, length, slice_index_or, slice_set};
-ghost use Rattle.oram.specs.Records.{vacant, vacant_table};
+ghost use Rattle.std.specs.Prelude.{◌≡◌, slice_set};
+ghost use Rattle.oram.specs.Records.{vacant_table};
 
-#[derive(Clone, Copy, PartialEq, Eq, Debug)]
+use shape::level::Level;
+
+// The rules have a record say whether its level is occupied; a vacant one is zero throughout.
+#[derive(Clone, Copy, PartialEq, Eq, Default, Debug)]
 pub struct Record {
     pub occupied: bool,
     pub size: u32,
@@ -16,33 +19,18 @@ pub struct Table {
     pub(crate) records: [Record; 13],
 }
 
-const VACANT: Record = Record {
-    occupied: false,
-    size: 0,
-    counter: 0,
-    build: 0,
-};
-
-pub(crate) fn vacant_table() -> Table
-    ensures { result ≡ vacant_table }
-{
-    Table {
-        records: [VACANT; 13],
-    }
-}
-
 impl Table {
-    pub(crate) fn get(&self, level: u32) -> Record
-        requires { level < length self.now.records }
-        ensures { result ≡ slice_index_or self.now.records level vacant }
+    pub(crate) fn vacant() -> Table
+        ensures { result ≡ vacant_table }
     {
-        self.records[level as usize]
+        Table {
+            records: [Record::default(); 13],
+        }
     }
 
-    pub(crate) fn put(&mut self, level: u32, record: Record)
-        requires { level < length self.old.records }
-        ensures { self.new.records ≡ slice_set self.old.records level «record» }
+    pub(crate) fn put(&mut self, level: Level, record: Record)
+        ensures { self.new.records ≡ slice_set self.old.records level.number «record» }
     {
-        self.records[level as usize] = record;
+        self.records[level.number as usize] = record;
     }
 }

@@ -6,18 +6,6 @@ ghost use Rattle.oram.specs.Loading.{put_request};
 use store::entry::Entry;
 use store::store::Store;
 
-// Notes the entry of a put.
-fn note_put(trace: &mut [Entry], at: usize, place: u32)
-    requires { at < length trace.old }
-    ensures { trace.new ≡ slice_set trace.old at (entry_of true true place) }
-{
-    trace[at] = Entry {
-        begins: true,
-        write: true,
-        place,
-    };
-}
-
 // Puts one slot, and notes the entry at this position of the trace.
 pub(crate) fn put_slot<S: Store>(
     store: &mut S,
@@ -33,9 +21,10 @@ pub(crate) fn put_slot<S: Store>(
     ensures store { S.state store.new ≡ ran (S.state store.old) (put_request place (record { key = key; bytes = payload.now }) ∷ []) }
     ensures trace { trace.new ≡ slice_set trace.old at (entry_of true true place) }
 {
-    match store.put(&[place], &[key], payload) {
-        Ok(()) => (),
-        Err(_) => unreachable(),
-    }
-    note_put(trace, at, place);
+    store.put(&[place], &[key], payload).unwrap();
+    trace[at] = Entry {
+        begins: true,
+        write: true,
+        place,
+    };
 }

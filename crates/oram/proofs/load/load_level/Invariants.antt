@@ -9,7 +9,7 @@ use Rattle.oram.proofs.load.load_level.Given as goal
 abbrev pub invariant-loop-slot : goal.invariant-loop-slot
 invariant-loop-slot g l =
     let c = g.P.Supply.choice l.initial.supply in
-    let rs = map (load_request l.levels l.width c l.bytes) (range_with_len 0 l.slot) in
+    let rs = map (load_request l.blocks.dimensions.levels.number l.blocks.dimensions.width c l.blocks.bytes.now) (range_with_len 0 l.slot) in
     (g.S.Store.state l.store ≡ ran (g.S.Store.state l.initial.store) rs)
     × (g.P.Supply.choice l.supply ≡ c)
     × (l.trace ≡ sets l.initial.trace 0 (entries rs))
