@@ -1,5 +1,7 @@
 // The client itself, and the questions that change nothing.
-ghost use Rattle.std.specs.Prelude.{◌≡◌};
+ghost use Rattle.std.specs.Prelude.{◌≡◌, true};
+ghost use Rattle.oram.specs.Fitting.{suits};
+ghost use Rattle.oram.specs.Opening.{unrefused};
 ghost use Rattle.oram.specs.Questions.{record_answer};
 
 use crate::record::{Record, Table};
@@ -25,6 +27,8 @@ pub struct Client<S: Store, I: Index, P: Supply> {
     pub(crate) index: I,
     pub(crate) supply: P,
     pub(crate) core: Core,
+    // its parts serve a client that was opened without a refusal
+    ghost serves: { unrefused core.refusal ≡ true → suits core.levels core.width (S.state store) (I.lists index) (P.choice supply) ≡ true },
 }
 
 impl<S: Store, I: Index, P: Supply> Client<S, I, P> {

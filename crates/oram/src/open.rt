@@ -100,14 +100,11 @@ impl<S: Store, I: Index, P: Supply> Client<S, I, P> {
         if self.core.refusal.is_some() {
             return Err(Refusal::NotOpened);
         }
-        let dimensions = Dimensions::new(self.core.levels, self.core.width).map_err(
-            |_| Refusal::NotOpened,
-        )?;
-        if !suits_store(dimensions, &self.store)
-            || !is_made_for(dimensions.levels, &self.index, &self.supply)
-        {
-            return Err(Refusal::NotOpened);
-        }
-        Ok(dimensions)
+        Ok(Dimensions {
+            levels: Level {
+                number: self.core.levels,
+            },
+            width: self.core.width,
+        })
     }
 }
