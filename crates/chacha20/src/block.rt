@@ -1,59 +1,45 @@
 // The block function: sixteen words from a key, a counter and a nonce.
-ghost use Rattle.std.specs.Prelude.{◌≡◌};
-ghost use Rattle.chacha20.specs.ChaCha20.{initial, sums, block};
+ghost use Rattle.std.specs.Prelude.{◌≡◌, length, map, slice_index};
+ghost use Rattle.std.specs.List.{range_with_len};
+ghost use Rattle.chacha20.specs.ChaCha20.{sum, initial, sums, block};
 
 use crate::key::Key;
 use crate::rounds;
+
+const CONSTANTS: [u32; 4] = [0x61707865, 0x3320646e, 0x79622d32, 0x6b206574];
 
 // Fills the words with the initial state.
 fn start(words: &mut [u32; 16], key: &Key, counter: u32, nonce: [u32; 3])
     ensures { words.new ≡ initial key.now.words counter nonce }
 {
-    *words = [
-        0x61707865,
-        0x3320646e,
-        0x79622d32,
-        0x6b206574,
-        key.words[0],
-        key.words[1],
-        key.words[2],
-        key.words[3],
-        key.words[4],
-        key.words[5],
-        key.words[6],
-        key.words[7],
-        counter,
-        nonce[0],
-        nonce[1],
-        nonce[2],
-    ];
+    words[..4].copy_from_slice(&CONSTANTS);
+    words[4..12].copy_from_slice(&key.words);
+    words[12] = counter;
+    words[13..].copy_from_slice(&nonce);
+}
+
+// Adds others to the words, place by place; by index, since a proof loses the words that a `zip` lends.
+fn add(words: &mut [u32], others: &[u32])
+    requires { length words.old ≡ length others.now }
+    ensures { words.new ≡ map (λ i. sum (slice_index words.old i) (slice_index others.now i)) (range_with_len 0 (length others.now)) }
+{
+    for (i, word) in words.iter_mut().enumerate() {
+        *word = word.wrapping_add(others[i]);
+    }
 }
 
 // Adds the initial state to the words. It is read off its parts again, so that no copy of it is left behind.
 fn finish(words: &mut [u32; 16], key: &Key, counter: u32, nonce: [u32; 3])
     ensures { words.new ≡ sums words.old (initial key.now.words counter nonce) }
 {
-    *words = [
-        words[0].wrapping_add(0x61707865),
-        words[1].wrapping_add(0x3320646e),
-        words[2].wrapping_add(0x79622d32),
-        words[3].wrapping_add(0x6b206574),
-        words[4].wrapping_add(key.words[0]),
-        words[5].wrapping_add(key.words[1]),
-        words[6].wrapping_add(key.words[2]),
-        words[7].wrapping_add(key.words[3]),
-        words[8].wrapping_add(key.words[4]),
-        words[9].wrapping_add(key.words[5]),
-        words[10].wrapping_add(key.words[6]),
-        words[11].wrapping_add(key.words[7]),
-        words[12].wrapping_add(counter),
-        words[13].wrapping_add(nonce[0]),
-        words[14].wrapping_add(nonce[1]),
-        words[15].wrapping_add(nonce[2]),
-    ];
+    add(&mut words[..4], &CONSTANTS);
+    add(&mut words[4..12], &key.words);
+    words[12] = words[12].wrapping_add(counter);
+    add(&mut words[13..], &nonce);
 }
 
 // Fills the words with a block.
+#[tactic(auto, unfolding(crate::specs::ChaCha20::block))]
 pub fn fill(words: &mut [u32; 16], key: &Key, counter: u32, nonce: [u32; 3])
     ensures { words.new ≡ block key.now.words counter nonce }
 {

@@ -1,14 +1,17 @@
 // The block vectors of RFC 8439, run: that of section 2.3.2, and the five of appendix A.1; and the guard.
+ghost use Rattle.std.specs.Prelude.{◌<◌};
+
 use crate::block;
 use crate::guard::Wiped;
 use crate::key::Key;
+use std::array;
 
 // A key of 32 bytes, all zero but one.
-fn key_with(place: usize, byte: u8) -> Key {
+fn key_with(place: usize, byte: u8) -> Key
+    requires { place < 32 }
+{
     let mut bytes = [0; 32];
-    if place < 32 {
-        bytes[place] = byte;
-    }
+    bytes[place] = byte;
     Key::new(&bytes)
 }
 
@@ -20,10 +23,7 @@ fn block_of(key: &Key, counter: u32, nonce: [u32; 3]) -> [u32; 16] {
 
 #[test]
 fn block_of_the_worked_example(rt: HostRuntime) {
-    let mut bytes = [0u8; 32];
-    for i in 0..32u8 {
-        bytes[i as usize] = i;
-    }
+    let bytes = array::from_fn(|i| i as u8);
     let found = block_of(&Key::new(&bytes), 1, [0x09000000, 0x4a000000, 0]);
     assert_eq!(rt;
         found,

@@ -2,6 +2,8 @@
 ghost use Rattle.std.specs.Prelude.{◌≡◌, ◌<◌};
 ghost use Rattle.chacha20.specs.ChaCha20.{word_of, key_words};
 
+use std::array;
+
 #[derive(Drop)]
 pub struct Key {
     pub(crate) words: [u32; 8],
@@ -12,12 +14,7 @@ fn word_at(bytes: &[u8; 32], i: usize) -> u32
     requires { i < 8 }
     ensures { result ≡ word_of bytes.now i }
 {
-    u32::from_le_bytes([
-        bytes[4 * i],
-        bytes[4 * i + 1],
-        bytes[4 * i + 2],
-        bytes[4 * i + 3],
-    ])
+    u32::from_le_bytes(array::from_fn(|j| bytes[4 * i + j]))
 }
 
 impl Key {
@@ -25,16 +22,7 @@ impl Key {
         ensures { result.words ≡ key_words bytes.now }
     {
         Key {
-            words: [
-                word_at(bytes, 0),
-                word_at(bytes, 1),
-                word_at(bytes, 2),
-                word_at(bytes, 3),
-                word_at(bytes, 4),
-                word_at(bytes, 5),
-                word_at(bytes, 6),
-                word_at(bytes, 7),
-            ],
+            words: array::from_fn(|i| word_at(bytes, i)),
         }
     }
 }

@@ -2,6 +2,7 @@
 #![tactic(auto)]
 
 pub mod block;
+#[cfg(test)]
 mod examples;
 pub mod guard;
 pub mod key;

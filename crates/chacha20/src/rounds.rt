@@ -1,21 +1,15 @@
 // The rounds, on sixteen working words.
 ghost use Rattle.std.specs.Prelude.{◌≡◌, ◌<◌};
-ghost use Rattle.chacha20.specs.ChaCha20.{rolled, line, quarter_round, column_round, diagonal_round, inner_block, inner_blocks};
-
-fn roll(word: u32, by: u32) -> u32
-    requires { (0 < by) × (by < 32) }
-    ensures { result ≡ rolled word by }
-{
-    word.rotate_left(by)
-}
+ghost use Rattle.chacha20.specs.ChaCha20.{line, quarter_round, inner_block, inner_blocks};
 
 // a += b; d ^= a; d <<<= by
+#[tactic(auto, unfolding(crate::specs::ChaCha20::line))]
 fn step(words: &mut [u32; 16], a: usize, b: usize, d: usize, by: u32)
     requires { (a < 16) × (b < 16) × (d < 16) × (0 < by) × (by < 32) }
     ensures { words.new ≡ line words.old a b d by }
 {
     words[a] = words[a].wrapping_add(words[b]);
-    words[d] = roll(words[d] ^ words[a], by);
+    words[d] = (words[d] ^ words[a]).rotate_left(by);
 }
 
 fn quarter(words: &mut [u32; 16], a: usize, b: usize, c: usize, d: usize)
@@ -28,31 +22,21 @@ fn quarter(words: &mut [u32; 16], a: usize, b: usize, c: usize, d: usize)
     step(words, c, d, b, 7);
 }
 
-fn columns(words: &mut [u32; 16])
-    ensures { words.new ≡ column_round words.old }
+// Four quarter rounds on the columns, and four on the diagonals.
+fn double_round(words: &mut [u32; 16])
+    ensures { words.new ≡ inner_block words.old }
 {
     quarter(words, 0, 4, 8, 12);
     quarter(words, 1, 5, 9, 13);
     quarter(words, 2, 6, 10, 14);
     quarter(words, 3, 7, 11, 15);
-}
-
-fn diagonals(words: &mut [u32; 16])
-    ensures { words.new ≡ diagonal_round words.old }
-{
     quarter(words, 0, 5, 10, 15);
     quarter(words, 1, 6, 11, 12);
     quarter(words, 2, 7, 8, 13);
     quarter(words, 3, 4, 9, 14);
 }
 
-fn double_round(words: &mut [u32; 16])
-    ensures { words.new ≡ inner_block words.old }
-{
-    columns(words);
-    diagonals(words);
-}
-
+#[tactic(auto, unfolding(crate::specs::ChaCha20::inner_blocks))]
 pub fn twenty_rounds(words: &mut [u32; 16])
     ensures { words.new ≡ inner_blocks 10 words.old }
 {

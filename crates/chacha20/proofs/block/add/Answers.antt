@@ -1,0 +1,6 @@
+use Rattle.std.proofs.Common.{arith}
+use Rattle.std.proofs.lemmas.List.FromFn.{fill_by_all}
+use Rattle.chacha20.proofs.block.add.Goals as goal
+
+pub returns : goal.returns
+returns c = fill_by_all _ _ _ 0 (omega arith) (λ k h. c.loop-i.invariant.0 k (omega arith))
