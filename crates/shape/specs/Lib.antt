@@ -1,2 +1,3 @@
+pub mod MakeErrors
 pub mod Numbers
 pub mod Refusals

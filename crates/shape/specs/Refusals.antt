@@ -1,5 +1,6 @@
 -- The refusals: the number of each, and what it means.
-use Rattle.std.specs.Prelude.{ℕ, List, codes}
+use Rattle.std.specs.Prelude.{ℕ, List, ◌++◌, codes}
+use Rattle.std.specs.Fmt.{decimal}
 use Rattle.shape.specs.declared.refusal.Refusal.{Refusal}
 use Rattle.shape.specs.declared.refusal.Refusal.TheVariants.{OutOfRange, StoreUnfit, IndexOrSupplyUnfit, UnknownOperation, UnknownAddress, WrongByteLength, TraceTooShort, WrongTable, WrongRound, PlaceBeyondStore, WrongListChange, BeyondSupply, UnreadableLine, WrongTurn, BuildsUsedUp, NotOpened, UnfitLetter}
 
@@ -40,3 +41,7 @@ meaning_of WrongTurn = codes "turn of another number than the client's"
 meaning_of BuildsUsedUp = codes "no build left in the supply"
 meaning_of NotOpened = codes "client opened with a refusal"
 meaning_of UnfitLetter = codes "letter does not fit the state of the session"
+
+-- how a refusal is printed
+abbrev pub refusal_text : Refusal → List ℕ
+refusal_text r = codes "refused by number " ++ (decimal (number_of r) ++ (codes ": " ++ meaning_of r))

@@ -1,6 +1,7 @@
 // Why a part of a client was not made: a refusal, or want of memory.
-ghost use Rattle.std.specs.Prelude.{◌≡◌};
+ghost use Rattle.std.specs.Prelude.{◌≡◌, Some};
 ghost use Rattle.shape.specs.declared.make_error.MakeError.TheVariants.{Refused, NoMemory};
+ghost use Rattle.shape.specs.MakeErrors.{make_error_text};
 
 use crate::refusal::Refusal;
 use std::alloc::AllocError;
@@ -30,6 +31,8 @@ impl From<AllocError> for MakeError {
 }
 
 impl fmt::Display for MakeError {
+    ghost output = { λ error. Some (make_error_text error) };
+
     fn fmt<W: fmt::Write>(&self, f: &mut fmt::Formatter<W>) -> fmt::Result {
         match self {
             MakeError::Refused(why) => write!(f, "{why}"),

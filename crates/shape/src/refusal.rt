@@ -1,6 +1,6 @@
 // Why a call is declined: a number and a meaning for each reason.
-ghost use Rattle.std.specs.Prelude.{◌≡◌};
-ghost use Rattle.shape.specs.Refusals.{number_of, meaning_of};
+ghost use Rattle.std.specs.Prelude.{◌≡◌, Some};
+ghost use Rattle.shape.specs.Refusals.{number_of, meaning_of, refusal_text};
 
 use std::error::Error;
 use std::fmt;
@@ -60,6 +60,8 @@ impl Refusal {
 }
 
 impl fmt::Display for Refusal {
+    ghost output = { λ refusal. Some (refusal_text refusal) };
+
     fn fmt<W: fmt::Write>(&self, f: &mut fmt::Formatter<W>) -> fmt::Result {
         write!(f, "refused by number {}: {}", self.number(), self.meaning())
     }

@@ -1,6 +1,7 @@
 -- What is asked of a store, one place at a time, and what becomes of the store. An entry is what the host sees of a request:
 -- whether it begins a round, whether it writes, and the place. A request is an entry with the slot that is given or taken.
-use Rattle.std.specs.Prelude.{ℕ, zero, suc, ◌+◌, ◌*◌, ◌%◌, ◌^◌, Bool, cond, List, [], ◌∷◌, map, length, slice_set}
+use Rattle.std.specs.Prelude.{ℕ, zero, suc, ◌+◌, ◌*◌, ◌%◌, ◌^◌, Bool, cond, List, [], ◌∷◌, ◌++◌, map, length, slice_set}
+use Rattle.std.specs.Fmt.{decimal}
 use Rattle.store.specs.declared.entry.Entry.{Entry}
 use Rattle.store.specs.State.{Slot, State}
 
@@ -10,6 +11,10 @@ entry_of b w p = record { begins = b; write = w; place = p }
 -- the number by which the trail learns of an entry
 abbrev pub mark : Entry → ℕ
 mark e = 4 * e.place + 2 * cond e.begins 1 0 + cond e.write 1 0
+
+-- how an entry is printed
+abbrev pub entry_text : Entry → List ℕ
+entry_text e = decimal (cond e.begins 1 0) ++ (44 ∷ (decimal (cond e.write 1 0) ++ (44 ∷ decimal e.place)))
 
 pub record Request : Type 0 where
   pub entry : Entry

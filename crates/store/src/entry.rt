@@ -22,6 +22,11 @@ impl Entry {
 }
 
 impl fmt::Display for Entry {
+    ghost use Rattle.std.specs.Prelude.{Some};
+    ghost use Rattle.store.specs.Requests.{entry_text};
+
+    ghost output = { λ entry. Some (entry_text entry) };
+
     fn fmt<W: fmt::Write>(&self, f: &mut fmt::Formatter<W>) -> fmt::Result {
         let begins = u8::from(self.begins);
         let write = u8::from(self.write);
