@@ -1,64 +1,48 @@
 // An index at the edges.
-use crate::parts::number;
+use crate::parts::numbered;
 use bitmap_index::BitmapIndex;
 use gap_index::GapIndex;
 use index::Index;
 use shape::make_error::MakeError;
-use shape::refusal::Refusal;
-use std::alloc::Global;
 use std::process::Abort;
 use std::test::Fail;
 use supply::straight::Straight;
 use supply::supply::Supply;
 
-fn index_number(heap: Global, levels: u32) -> u32 {
-    match BitmapIndex::new(heap, levels) {
-        Ok(_) => 0,
-        Err(MakeError::Refused(refusal)) => refusal.number(),
-        Err(MakeError::NoMemory) => 99,
+// The number of the refusal, if the part was not made.
+fn refused<T: Drop, E: Into<MakeError>>(made: Result<T, E>) -> Result<Option<u32>, Fail> {
+    match made.map_err(E::into) {
+        Ok(_) => Ok(None),
+        Err(MakeError::Refused(why)) => Ok(Some(why.number())),
+        Err(MakeError::NoMemory) => Err(Fail::new("no memory")),
     }
 }
 
-fn made_number<I: Drop>(made: Result<I, MakeError>) -> u32 {
-    match made {
-        Ok(_) => 0,
-        Err(MakeError::Refused(refusal)) => refusal.number(),
-        Err(MakeError::NoMemory) => 99,
-    }
-}
+// Which L are refused.
+const LEVELS: [(u32, Option<u32>); 4] = [(0, Some(1)), (1, None), (12, None), (13, Some(1))];
 
-fn supply_number(levels: u32) -> u32 {
-    match Straight::new(levels) {
-        Ok(_) => 0,
-        Err(refusal) => refusal.number(),
+#[test]
+fn made_for_levels_one_to_twelve(rt: HostRuntime) -> Result<(), Fail> {
+    for (levels, number) in LEVELS {
+        assert_eq!(rt; refused(BitmapIndex::new(rt.alloc(), levels))?, number);
+        assert_eq!(rt; refused(Straight::new(levels))?, number);
     }
+    Ok(())
 }
 
 #[test]
-fn made_for_levels_one_to_twelve(rt: HostRuntime) {
-    assert_eq!(rt; index_number(rt.alloc(), 0), 1);
-    assert_eq!(rt; index_number(rt.alloc(), 1), 0);
-    assert_eq!(rt; index_number(rt.alloc(), 12), 0);
-    assert_eq!(rt; index_number(rt.alloc(), 13), 1);
-    assert_eq!(rt; supply_number(0), 1);
-    assert_eq!(rt; supply_number(1), 0);
-    assert_eq!(rt; supply_number(12), 0);
-    assert_eq!(rt; supply_number(13), 1);
-}
-
-#[test]
-fn made_for_levels_one_to_twelve_by_gaps(rt: HostRuntime) {
-    assert_eq!(rt; made_number(GapIndex::new(rt.alloc(), 0)), 1);
-    assert_eq!(rt; made_number(GapIndex::new(rt.alloc(), 1)), 0);
-    assert_eq!(rt; made_number(GapIndex::new(rt.alloc(), 12)), 0);
-    assert_eq!(rt; made_number(GapIndex::new(rt.alloc(), 13)), 1);
+fn made_for_levels_one_to_twelve_by_gaps(rt: HostRuntime) -> Result<(), Fail> {
+    for (levels, number) in LEVELS {
+        assert_eq!(rt; refused(GapIndex::new(rt.alloc(), levels))?, number);
+    }
+    Ok(())
 }
 
 #[test]
 fn ranks_and_positions(rt: HostRuntime) -> Result<(), Fail> {
     let mut index = BitmapIndex::new(rt.alloc(), 4)?;
     for address in [2, 5, 7, 9] {
-        assert_eq!(rt; number(index.append(2, address)), 0);
+        assert_eq!(rt; numbered(index.append(2, address)), Ok(()));
     }
     assert_eq!(rt; index.size(2), Some(4));
     assert_eq!(rt; index.rank(2, 7), Some(2));
@@ -74,19 +58,19 @@ fn ranks_and_positions(rt: HostRuntime) -> Result<(), Fail> {
 #[test]
 fn appends_and_clears_refused(rt: HostRuntime) -> Result<(), Fail> {
     let mut index = BitmapIndex::new(rt.alloc(), 3)?;
-    assert_eq!(rt; number(index.append(2, 5)), 0);
-    assert_eq!(rt; number(index.append(2, 5)), 11);
-    assert_eq!(rt; number(index.append(2, 4)), 11);
-    assert_eq!(rt; number(index.append(2, 8)), 11);
-    assert_eq!(rt; number(index.append(3, 6)), 11);
-    assert_eq!(rt; number(index.append(0, 0)), 0);
-    assert_eq!(rt; number(index.append(0, 1)), 11);
-    assert_eq!(rt; number(index.clear(3)), 11);
+    assert_eq!(rt; numbered(index.append(2, 5)), Ok(()));
+    assert_eq!(rt; numbered(index.append(2, 5)), Err(11));
+    assert_eq!(rt; numbered(index.append(2, 4)), Err(11));
+    assert_eq!(rt; numbered(index.append(2, 8)), Err(11));
+    assert_eq!(rt; numbered(index.append(3, 6)), Err(11));
+    assert_eq!(rt; numbered(index.append(0, 0)), Ok(()));
+    assert_eq!(rt; numbered(index.append(0, 1)), Err(11));
+    assert_eq!(rt; numbered(index.clear(3)), Err(11));
     assert_eq!(rt; index.size(2), Some(1));
-    assert_eq!(rt; number(index.clear(2)), 0);
+    assert_eq!(rt; numbered(index.clear(2)), Ok(()));
     assert_eq!(rt; index.size(2), Some(0));
     assert_eq!(rt; index.size(0), Some(1));
-    assert_eq!(rt; number(index.append(2, 0)), 0);
+    assert_eq!(rt; numbered(index.append(2, 0)), Ok(()));
     Ok(())
 }
 
@@ -94,18 +78,22 @@ fn appends_and_clears_refused(rt: HostRuntime) -> Result<(), Fail> {
 fn add_four<I: Index>(rt: &impl Abort, index: &mut I, level: u32) {
     assert_eq!(rt; index.size(level), Some(0));
     for address in [2, 5, 7, 9] {
-        assert_eq!(rt; number(index.append(level, address)), 0);
+        assert_eq!(rt; numbered(index.append(level, address)), Ok(()));
     }
     holds_four(rt, index, level);
 }
 
 fn holds_four<I: Index>(rt: &impl Abort, index: &I, level: u32) {
     assert_eq!(rt; index.size(level), Some(4));
-    assert_eq!(rt; index.member(level, 0), Some(2));
-    assert_eq!(rt; index.member(level, 1), Some(5));
-    assert_eq!(rt; index.member(level, 2), Some(7));
-    assert_eq!(rt; index.member(level, 3), Some(9));
-    assert_eq!(rt; index.member(level, 4), None);
+    for (position, member) in [
+        (0, Some(2)),
+        (1, Some(5)),
+        (2, Some(7)),
+        (3, Some(9)),
+        (4, None),
+    ] {
+        assert_eq!(rt; index.member(level, position), member);
+    }
 }
 
 // Ranks and positions in {2, 5, 7, 9}, for any kind of index of four levels.
@@ -146,23 +134,22 @@ fn as_filled<I: Index>(rt: &impl Abort, index: &I) {
     holds_four(rt, index, 3);
 }
 
-// A refused append changes nothing.
-fn append_refused<I: Index>(rt: &impl Abort, index: &mut I, level: u32, address: u32, why: &str) {
-    assert_eq!(rt; number(index.append(level, address)), 11, "{why}");
-    as_filled(rt, index);
-}
-
-// Appends and clears that are refused, for any kind of index of four levels: level 2 is full, level 3 is not.
+// Appends and clears that are refused and change nothing, for any kind of index of four levels: level 2 is full, level 3 is not.
 fn refused_changes<I: Index>(rt: &impl Abort, index: &mut I) {
     add_four(rt, index, 2);
     add_four(rt, index, 3);
-    append_refused(rt, index, 3, 9, "equal to the last");
-    append_refused(rt, index, 3, 8, "below the last");
-    append_refused(rt, index, 3, 16, "n");
-    append_refused(rt, index, 3, 17, "above n");
-    append_refused(rt, index, 2, 10, "full");
-    append_refused(rt, index, 4, 10, "level L");
-    assert_eq!(rt; number(index.clear(4)), 11);
+    for (level, address, why) in [
+        (3, 9, "equal to the last"),
+        (3, 8, "below the last"),
+        (3, 16, "n"),
+        (3, 17, "above n"),
+        (2, 10, "full"),
+        (4, 10, "level L"),
+    ] {
+        assert_eq!(rt; numbered(index.append(level, address)), Err(11), "{why}");
+        as_filled(rt, index);
+    }
+    assert_eq!(rt; numbered(index.clear(4)), Err(11));
     as_filled(rt, index);
 }
 
@@ -182,13 +169,13 @@ fn refused_changes_by_gaps(rt: HostRuntime) -> Result<(), Fail> {
 fn cleared_and_filled_again<I: Index>(rt: &impl Abort, index: &mut I) {
     add_four(rt, index, 2);
     add_four(rt, index, 3);
-    assert_eq!(rt; number(index.clear(2)), 0);
+    assert_eq!(rt; numbered(index.clear(2)), Ok(()));
     assert_eq!(rt; index.size(2), Some(0));
     assert_eq!(rt; index.member(2, 0), None);
     assert_eq!(rt; index.rank(2, 7), None);
     holds_four(rt, index, 3);
-    assert_eq!(rt; number(index.append(2, 0)), 0);
-    assert_eq!(rt; number(index.append(2, 15)), 0);
+    assert_eq!(rt; numbered(index.append(2, 0)), Ok(()));
+    assert_eq!(rt; numbered(index.append(2, 15)), Ok(()));
     assert_eq!(rt; index.size(2), Some(2));
     assert_eq!(rt; index.member(2, 1), Some(15));
     assert_eq!(rt; index.rank(2, 15), Some(1));
@@ -210,8 +197,8 @@ fn cleared_and_filled_again_by_gaps(rt: HostRuntime) -> Result<(), Fail> {
 
 // Level 0 has room for one address.
 fn room_for_one<I: Index>(rt: &impl Abort, index: &mut I) {
-    assert_eq!(rt; number(index.append(0, 0)), 0);
-    assert_eq!(rt; number(index.append(0, 1)), 11);
+    assert_eq!(rt; numbered(index.append(0, 0)), Ok(()));
+    assert_eq!(rt; numbered(index.append(0, 1)), Err(11));
     assert_eq!(rt; index.size(0), Some(1));
     assert_eq!(rt; index.member(0, 0), Some(0));
     assert_eq!(rt; index.rank(0, 0), Some(0));
@@ -235,22 +222,15 @@ fn gaps_of_four(rt: HostRuntime) -> Result<(), Fail> {
     Ok(())
 }
 
-fn slot_number(answer: Result<u32, Refusal>) -> u32 {
-    match answer {
-        Ok(slot) => slot,
-        Err(refusal) => 1_000_000 + refusal.number(),
-    }
-}
-
 #[test]
 fn questions_to_a_supply(rt: HostRuntime) -> Result<(), Fail> {
     let mut supply = Straight::new(2)?;
     assert_eq!(rt; supply.builds(), 1_000_000);
-    assert_eq!(rt; slot_number(supply.slot_of(0, 7)), 7);
-    assert_eq!(rt; slot_number(supply.slot_of(0, 8)), 1_000_012);
-    assert_eq!(rt; slot_number(supply.index_of(1, 1)), 1);
-    assert_eq!(rt; slot_number(supply.index_of(1, 2)), 1_000_012);
-    assert_eq!(rt; slot_number(supply.index_of(999_999, 1)), 1);
-    assert_eq!(rt; slot_number(supply.index_of(1_000_000, 0)), 1_000_012);
+    assert_eq!(rt; numbered(supply.slot_of(0, 7)), Ok(7));
+    assert_eq!(rt; numbered(supply.slot_of(0, 8)), Err(12));
+    assert_eq!(rt; numbered(supply.index_of(1, 1)), Ok(1));
+    assert_eq!(rt; numbered(supply.index_of(1, 2)), Err(12));
+    assert_eq!(rt; numbered(supply.index_of(999_999, 1)), Ok(1));
+    assert_eq!(rt; numbered(supply.index_of(1_000_000, 0)), Err(12));
     Ok(())
 }

@@ -6,26 +6,36 @@
 ghost use Rattle.std.specs.Prelude.{◌<◌, ◌≤◌};
 
 use bitmap_index::BitmapIndex;
+use fault::{Fault, finish, parsed, words};
 use gap_index::GapIndex;
 use index::Index;
 use shape::make_error::MakeError;
-use shape::refusal::Refusal;
 use std::alloc::{AllocError, Global};
 use std::process::ExitCode;
-use std::{env, io};
-
-// What is wrong with the input.
-#[derive(Clone, Copy)]
-enum Fault {
-    Usage,
-    NoMemory,
-    Refused(Refusal),
-}
+use std::rt::Env;
+use std::str::FromStr;
+use std::{fmt, io};
 
 #[derive(Clone, Copy)]
 enum Kind {
     Bitmap,
     Gaps,
+}
+
+// A word that names no kind or no topic.
+#[derive(Clone, Copy)]
+struct Unknown;
+
+impl FromStr for Kind {
+    type Err = Unknown;
+
+    fn from_str(word: &str) -> Result<Kind, Unknown> {
+        match word {
+            "bitmap" => Ok(Kind::Bitmap),
+            "gaps" => Ok(Kind::Gaps),
+            _ => Err(Unknown),
+        }
+    }
 }
 
 #[derive(Clone, Copy)]
@@ -38,6 +48,22 @@ enum Topic {
     // a round clears the list first
     Append,
     Clear,
+}
+
+impl FromStr for Topic {
+    type Err = Unknown;
+
+    fn from_str(word: &str) -> Result<Topic, Unknown> {
+        match word {
+            "nothing" => Ok(Topic::Nothing),
+            "size" => Ok(Topic::Size),
+            "member" => Ok(Topic::Member),
+            "rank" => Ok(Topic::Rank),
+            "append" => Ok(Topic::Append),
+            "clear" => Ok(Topic::Clear),
+            _ => Err(Unknown),
+        }
+    }
 }
 
 // The questions of a round stand in memory, so that the compiler cannot foresee one and must ask it.
@@ -74,14 +100,9 @@ fn question_at(topic: Topic, level: u32, position: u32) -> Question {
 fn make_round(heap: Global, topic: Topic, level: u32) -> Result<Vec<Question>, AllocError>
     requires { level < 12 }
 {
-    let mut round = Vec::new(heap);
-    if let Topic::Append = topic {
-        round.push(question_at(Topic::Clear, level, 0))?;
-    }
-    for position in 0..1 << level {
-        round.push(question_at(topic, level, position))?;
-    }
-    Ok(round)
+    let clear = matches!(topic, Topic::Append).then_some(question_at(Topic::Clear, level, 0));
+    let questions = (0..1 << level).map(|position| question_at(topic, level, position));
+    clear.into_iter().chain(questions).collect(heap)
 }
 
 fn ask<I: Index>(index: &mut I, question: Question) -> u32 {
@@ -98,134 +119,69 @@ fn ask<I: Index>(index: &mut I, question: Question) -> u32 {
 }
 
 // Each answer changes the checksum by one step of FNV-1a.
-fn add_answer(checksum: u64, answer: u32) -> u64 {
-    (checksum ^ answer as u64).wrapping_mul(0x100000001b3)
+#[derive(Clone, Copy)]
+struct Checksum(u64);
+
+impl Checksum {
+    const EMPTY: Checksum = Checksum(0xcbf29ce484222325);
+
+    fn with_answer(self, answer: u32) -> Checksum {
+        Checksum((self.0 ^ u64::from(answer)).wrapping_mul(0x100000001b3))
+    }
 }
 
-fn ask_round<I: Index>(index: &mut I, round: &[Question], before: u64) -> u64 {
-    let mut checksum = before;
-    for question in round {
-        checksum = add_answer(checksum, ask(index, *question));
+impl fmt::Display for Checksum {
+    fn fmt<W: fmt::Write>(&self, f: &mut fmt::Formatter<W>) -> fmt::Result {
+        writeln!(f, "checksum {:016x}", self.0)
     }
-    checksum
+}
+
+fn ask_round<I: Index>(index: &mut I, round: &[Question], before: Checksum) -> Checksum {
+    round.iter().fold(before, |checksum, question| {
+        checksum.with_answer(ask(index, *question))
+    })
 }
 
 // Fills the largest list, asks all rounds, and gives the checksum of the answers.
-fn ask_all<I: Index>(heap: Global, index: &mut I, job: Job) -> Result<u64, MakeError>
+fn ask_all<I: Index>(heap: Global, index: &mut I, job: Job) -> Result<Checksum, MakeError>
     requires { (1 ≤ job.levels) × (job.levels ≤ 12) }
 {
     let level = job.levels - 1;
     let fill = make_round(heap, Topic::Append, level)?;
     let round = make_round(heap, job.topic, level)?;
-    let mut checksum = ask_round(index, &fill, 0xcbf29ce484222325);
-    for _ in 0..job.rounds {
-        checksum = ask_round(index, &round, checksum);
-    }
-    Ok(checksum)
+    let filled = ask_round(index, &fill, Checksum::EMPTY);
+    Ok((0..job.rounds).fold(filled, |checksum, _| ask_round(index, &round, checksum)))
 }
 
-fn ask_kind(heap: Global, job: Job) -> Result<u64, MakeError> {
+fn ask_kind(heap: Global, job: Job) -> Result<Checksum, MakeError> {
     match job.kind {
-        Kind::Bitmap => {
-            let mut index = BitmapIndex::new(heap, job.levels)?;
-            ask_all(heap, &mut index, job)
-        }
-        Kind::Gaps => {
-            let mut index = GapIndex::new(heap, job.levels)?;
-            ask_all(heap, &mut index, job)
-        }
+        Kind::Bitmap => ask_all(heap, &mut BitmapIndex::new(heap, job.levels)?, job),
+        Kind::Gaps => ask_all(heap, &mut GapIndex::new(heap, job.levels)?, job),
     }
 }
 
-fn read_kind(word: Option<String>) -> Result<Kind, Fault> {
-    let Some(word) = word else {
-        return Err(Fault::Usage);
+fn run<R: AllocGlobal + Env>(rt: &R) -> Result<Checksum, Fault> {
+    let mut words = words(rt)?;
+    let (Some(kind), Some(levels), Some(topic), Some(rounds), None) = (
+        parsed(words.next()),
+        parsed(words.next()),
+        parsed(words.next()),
+        parsed(words.next()),
+        words.next(),
+    ) else {
+        return Err(Fault::Usage(
+            "index_costs bitmap|gaps L nothing|size|member|rank|append|clear ROUNDS",
+        ));
     };
-    match word.as_str() {
-        "bitmap" => Ok(Kind::Bitmap),
-        "gaps" => Ok(Kind::Gaps),
-        _ => Err(Fault::Usage),
-    }
-}
-
-fn read_topic(word: Option<String>) -> Result<Topic, Fault> {
-    let Some(word) = word else {
-        return Err(Fault::Usage);
-    };
-    match word.as_str() {
-        "nothing" => Ok(Topic::Nothing),
-        "size" => Ok(Topic::Size),
-        "member" => Ok(Topic::Member),
-        "rank" => Ok(Topic::Rank),
-        "append" => Ok(Topic::Append),
-        "clear" => Ok(Topic::Clear),
-        _ => Err(Fault::Usage),
-    }
-}
-
-fn read_number(word: Option<String>) -> Result<u32, Fault> {
-    let Some(word) = word else {
-        return Err(Fault::Usage);
-    };
-    match word.as_str().parse::<u32>() {
-        Ok(number) => Ok(number),
-        Err(_) => Err(Fault::Usage),
-    }
-}
-
-fn read_job(rt: &HostRuntime) -> Result<Job, Fault> {
-    let Ok(mut words) = env::args(rt) else {
-        return Err(Fault::NoMemory);
-    };
-    let _ = words.next();
     let job = Job {
-        kind: read_kind(words.next())?,
-        levels: read_number(words.next())?,
-        topic: read_topic(words.next())?,
-        rounds: read_number(words.next())?,
+        kind,
+        levels,
+        topic,
+        rounds,
     };
-    if words.next().is_some() {
-        return Err(Fault::Usage);
-    }
-    Ok(job)
-}
-
-fn answer(rt: &HostRuntime) -> Result<u64, Fault> {
-    match ask_kind(rt.alloc(), read_job(rt)?) {
-        Ok(checksum) => Ok(checksum),
-        Err(MakeError::Refused(refusal)) => Err(Fault::Refused(refusal)),
-        Err(MakeError::NoMemory) => Err(Fault::NoMemory),
-    }
-}
-
-// One line on what is wrong.
-fn print_fault(rt: &HostRuntime, fault: Fault) -> io::Result<()> {
-    match fault {
-        Fault::Usage => eprintln!(rt;
-            "index_costs: usage: index_costs bitmap|gaps L nothing|size|member|rank|append|clear ROUNDS"
-        ),
-        Fault::NoMemory => eprintln!(rt; "index_costs: no memory"),
-        Fault::Refused(refusal) => {
-            let number = refusal.number();
-            let meaning = refusal.meaning();
-            eprintln!(rt; "index_costs: refused by number {number}: {meaning}")
-        }
-    }
-}
-
-fn run(rt: &HostRuntime) -> io::Result<ExitCode> {
-    match answer(rt) {
-        Ok(checksum) => {
-            println!(rt; "checksum {checksum:016x}")?;
-            Ok(ExitCode::SUCCESS)
-        }
-        Err(fault) => {
-            print_fault(rt, fault)?;
-            Ok(ExitCode::FAILURE)
-        }
-    }
+    Ok(ask_kind(rt.alloc(), job)?)
 }
 
 fn main(rt: HostRuntime) -> io::Result<ExitCode> {
-    run(&rt)
+    finish(&rt, "index_costs", run(&rt))
 }

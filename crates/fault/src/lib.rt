@@ -1,0 +1,114 @@
+// What a program is asked, what can be wrong with it, and how it ends.
+#![tactic(auto)]
+
+ghost use Rattle.std.specs.Prelude.{◌≡◌, IfOk, IsOkUnless, is_ok, if◌then◌else◌, option_map, string_bytes};
+ghost use Rattle.std.specs.Process.{exit_status};
+ghost use Rattle.shape.specs.declared.refusal.Refusal.{Refusal};
+ghost use Rattle.fault.specs.declared.Fault.TheVariants.{NoMemory, Refused};
+ghost use Rattle.fault.specs.Words.{Reads, fault_of};
+
+use shape::make_error::MakeError;
+use shape::refusal::Refusal;
+use std::alloc::AllocError;
+use std::env::Args;
+use std::error::Error;
+use std::iter::Skip;
+use std::process::ExitCode;
+use std::rt::{Env, Files};
+use std::str::FromStr;
+use std::{env, fmt, fs, io};
+
+#[derive(Clone, Copy, Debug)]
+pub enum Fault {
+    // how the program is called
+    Usage(&'static str),
+    NoFile,
+    NoKey,
+    NoMemory,
+    Refused(Refusal),
+}
+
+impl fmt::Display for Fault {
+    fn fmt<W: fmt::Write>(&self, f: &mut fmt::Formatter<W>) -> fmt::Result {
+        match self {
+            Fault::Usage(line) => write!(f, "usage: {line}"),
+            Fault::NoFile => write!(f, "cannot read the file"),
+            Fault::NoKey => write!(f, "cannot read a key of 32 bytes"),
+            Fault::NoMemory => write!(f, "no memory"),
+            Fault::Refused(why) => write!(f, "{why}"),
+        }
+    }
+}
+
+impl Error for Fault {}
+
+impl From<AllocError> for Fault {
+    ghost from_gives = { λ _ r. r ≡ NoMemory };
+
+    fn from(_: AllocError) -> Fault {
+        Fault::NoMemory
+    }
+}
+
+impl From<Refusal> for Fault {
+    ghost from_gives = { λ refusal r. r ≡ Refused refusal };
+
+    fn from(refusal: Refusal) -> Fault {
+        Fault::Refused(refusal)
+    }
+}
+
+impl From<MakeError> for Fault {
+    ghost from_gives = { λ error r. r ≡ fault_of error };
+
+    fn from(error: MakeError) -> Fault {
+        match error {
+            MakeError::Refused(why) => Fault::Refused(why),
+            MakeError::NoMemory => Fault::NoMemory,
+        }
+    }
+}
+
+// The words after the program's name.
+pub fn words<R: AllocGlobal + Env>(rt: &R) -> Result<Skip<Args>, Fault>
+    ensures { IsOkUnless result Fault.NoMemory }
+{
+    Ok(env::args(rt).map_err(|_| Fault::NoMemory)?.skip(1))
+}
+
+// What a word stands for, if it is there and stands for something.
+pub fn parsed<T: FromStr>(word: Option<String>) -> Option<T>
+where
+    T::Err: Drop,
+    ensures { Reads T.from_str_gives (option_map string_bytes word) result }
+{
+    word?.as_str().parse().ok()
+}
+
+// The key in a file of 32 bytes.
+pub fn read_key<R: AllocGlobal + Files>(rt: &R, path: &str) -> Result<[u8; 32], Fault>
+    ensures { IsOkUnless result Fault.NoKey }
+{
+    let bytes = fs::read(rt, path).map_err(|_| Fault::NoKey)?;
+    <[u8; 32]>::try_from(bytes.as_slice()).map_err(|_| Fault::NoKey)
+}
+
+// Prints what came out, or one line on what is wrong.
+pub fn finish<R: Eprint + Print, T: fmt::Display + Drop>(
+    rt: &R,
+    name: &str,
+    outcome: Result<T, Fault>,
+) -> io::Result<ExitCode>
+    ensures { IfOk result (λ code. exit_status code ≡ (if is_ok outcome then 0 else 1)) }
+{
+    match outcome {
+        Ok(report) => {
+            print!(rt; "{report}")?;
+            Ok(ExitCode::SUCCESS)
+        }
+        Err(fault) => {
+            eprintln!(rt; "{name}: {fault}")?;
+            Ok(ExitCode::FAILURE)
+        }
+    }
+}
