@@ -1,11 +1,11 @@
 // What a program is asked, what can be wrong with it, and how it ends.
 #![tactic(auto)]
 
-ghost use Rattle.std.specs.Prelude.{◌≡◌, IfOk, IsOkUnless, is_ok, if◌then◌else◌, option_map, string_bytes};
+ghost use Rattle.std.specs.Prelude.{◌≡◌, Some, IfOk, IsOkUnless, is_ok, if◌then◌else◌, option_map, string_bytes};
 ghost use Rattle.std.specs.Process.{exit_status};
 ghost use Rattle.shape.specs.declared.refusal.Refusal.{Refusal};
 ghost use Rattle.fault.specs.declared.Fault.TheVariants.{NoMemory, Refused};
-ghost use Rattle.fault.specs.Words.{Reads, fault_of};
+ghost use Rattle.fault.specs.Words.{Reads, fault_of, fault_text};
 
 use shape::make_error::MakeError;
 use shape::refusal::Refusal;
@@ -29,6 +29,8 @@ pub enum Fault {
 }
 
 impl fmt::Display for Fault {
+    ghost output = { λ fault. Some (fault_text fault) };
+
     fn fmt<W: fmt::Write>(&self, f: &mut fmt::Formatter<W>) -> fmt::Result {
         match self {
             Fault::Usage(line) => write!(f, "usage: {line}"),
@@ -110,5 +112,15 @@ pub fn finish<R: Eprint + Print, T: fmt::Display + Drop>(
             eprintln!(rt; "{name}: {fault}")?;
             Ok(ExitCode::FAILURE)
         }
+    }
+}
+
+#[cfg(test)]
+mod tests {
+    use super::*;
+
+    #[test]
+    fn words_are_given(rt: HostRuntime) {
+        assert!(rt; words(&rt).is_ok());
     }
 }
