@@ -1,5 +1,8 @@
 -- Gaps and the list that they mean: its length, members and order, and what one more gap adds.
 use Rattle.std.proofs.Common.{◌≡◌, ℕ, zero, suc, ◌+◌, ◌-◌, ◌<◌, ◌≤◌, Bool, true, false, cond, ◌&&◌, ◌||◌, eqb, ltb, leb, ◌⊎◌, List, [], ◌∷◌, ◌++◌, length, get_or, take, Some, None, sum, sym, refl, ap, ◌∙◌, inl, inr, arith}
+use Rattle.std.specs.List.{slice_get}
+use Rattle.std.specs.Bool.{then_some}
+use Rattle.std.proofs.lemmas.Option.{slice_get-get_or, slice_get_past}
 use Rattle.std.proofs.lemmas.List.Sums.{sum_by-cons, sum_by_push, sum_by_more, sum_by-take-le}
 use Rattle.std.proofs.lemmas.Bool.{lt-ltb, le-ltb, le-leb, lt-leb, eq-eqb, ne_eqb, cases_eq, cases_lt, and_left, cond-true, cond-false}
 use Rattle.index.specs.Lists.{Rising, has, smaller, above}
@@ -76,8 +79,11 @@ member_from f (g ∷ gs) (suc p) h =
     member_from (f + g) gs p (omega arith) ∙ omega (arith, sum_cons g (take (p + 1) gs), ap (λ (n : ℕ). sum (take n (g ∷ gs))) e)
 
 -- a member is the sum of the gaps up to it, minus 1
-pub member_is : (gs : List ℕ) (p : ℕ) → p < length gs → get_or (listed gs) p 0 ≡ sum (take (p + 1) gs) - 1
-member_is gs p h = omega (arith, member_from 0 gs p h)
+pub member_is : (gs : List ℕ) (p : ℕ) → p < length gs → slice_get (listed gs) p ≡ Some (sum (take (p + 1) gs) - 1)
+member_is gs p h = grind (arith, slice_get-get_or, member_from 0 gs p h, length_listed)
+
+pub member_past : (gs : List ℕ) (p : ℕ) → length gs ≤ p → slice_get (listed gs) p ≡ None
+member_past gs p h = grind (arith, slice_get_past, length_listed)
 
 -- the members lie from where the gaps are counted up to their sum
 from_low : (f : ℕ) (gs : List ℕ) → Positive gs → (p : ℕ) → p < length (listed_from f gs) → f ≤ get_or (listed_from f gs) p 0
@@ -206,17 +212,9 @@ passed_from f (g ∷ gs) a (suc i) h n low high =
 passed : (gs : List ℕ) (a i : ℕ) → Positive gs → i < length gs → sum (take i gs) ≤ a → a < sum (take (i + 1) gs) → Passed 0 gs a i
 passed gs a i h n low high = passed_from 0 gs a i h n (omega arith) (omega arith)
 
--- the rank of the address that the running sums reach, and none for one that they pass over
-pub rank_here : (gs : List ℕ) (a i : ℕ) → Positive gs → i < length gs → sum (take i gs) ≤ a → a + 1 ≡ sum (take (i + 1) gs) → Some i ≡ rank_in (listed gs) a
-rank_here gs a i h n low e =
-    let p = passed gs a i h n low (omega arith) in
-    let there : has (listed gs) a ≡ true = p.here ∙ eq-eqb (a + 1) (0 + sum (take (i + 1) gs)) (omega arith) in
-    sym (cond-true (has (listed gs) a) (Some (smaller (listed gs) a)) None there ∙ ap Some p.rank)
-
-pub rank_between : (gs : List ℕ) (a i : ℕ) → Positive gs → i < length gs → sum (take i gs) ≤ a → a < sum (take (i + 1) gs) → (a + 1 ≡ sum (take (i + 1) gs) → ⊥) → None ≡ rank_in (listed gs) a
-rank_between gs a i h n low high ne =
-    let p = passed gs a i h n low high in
-    sym (cond-false (has (listed gs) a) (Some (smaller (listed gs) a)) None (p.here ∙ ne_eqb (a + 1) (0 + sum (take (i + 1) gs)) (λ e. ne (omega arith))))
+-- the running sums pass an address: it is a member where they reach it, and that position is its rank
+pub rank_passed : (gs : List ℕ) (a i : ℕ) → Positive gs → i < length gs → sum (take i gs) ≤ a → a < sum (take (i + 1) gs) → then_some (eqb (a + 1) (sum (take (i + 1) gs))) i ≡ rank_in (listed gs) a
+rank_passed gs a i h n low high = grind (arith, passed gs a i h n low high)
 
 pub rank_after : (gs : List ℕ) (a : ℕ) → Positive gs → sum gs ≤ a → None ≡ rank_in (listed gs) a
 rank_after gs a h l = sym (cond-false (has (listed gs) a) (Some (smaller (listed gs) a)) None (has_late 0 gs a h (omega arith)))
