@@ -44,6 +44,7 @@ impl GapIndex {
     }
 
     // The gaps of a level's list; none where there is no such level. A rising list and its gaps give each other back.
+    #[tactic(auto, using(crate::specs::Listed::each_undoes))]
     pub fn gaps(&self, level: u32) -> &[u16]
         ensures value { result.now ≡ gaps_of (list_at (lists_of self.now.rows.items) level) }
         ensures list_back { GapsGiveTheList }
@@ -78,15 +79,13 @@ impl Index for GapIndex {
     }
 
     fn append(&mut self, level: u32, address: u32) -> Result<(), Refusal> {
-        let blocks = self.levels.blocks();
-        let row = self
-            .rows
-            .get_mut(level as usize)
-            .ok_or(Refusal::WrongListChange)?;
-        if address >= blocks {
+        if address >= self.levels.blocks() {
             return Err(Refusal::WrongListChange);
         }
-        row.append(address)
+        self.rows
+            .get_mut(level as usize)
+            .ok_or(Refusal::WrongListChange)?
+            .append(address)
     }
 
     fn clear(&mut self, level: u32) -> Result<(), Refusal> {

@@ -23,6 +23,7 @@ fn total(gaps: &[u16]) -> u32
     gaps.iter().sum::<u16>() as u32
 }
 
+#[tactic(auto, using(crate::specs::Listed::row_steps))]
 impl Row {
     ghost use Rattle.std.specs.Prelude.{◌+◌, ◌^◌, ◌<◌, ◌∷◌, ◌++◌, ◌&&◌, [], length, max, nat_lt, Ok, Err, IfOk, is_ok, if◌then◌else◌, vec_len, vec_capacity};
     ghost use Rattle.std.specs.List.{slice_get};
