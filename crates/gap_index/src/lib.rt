@@ -1,13 +1,13 @@
 // The gap index: for each level the gaps of its rising list, one number each.
 #![tactic(auto)]
 
-ghost use Rattle.std.specs.Prelude.{◌≡◌, ◌^◌, ◌≤◌, true, false, [], length, map, replicate, Ok, Err, vec_capacity};
-ghost use Rattle.std.specs.List.{All, range_with_len};
+ghost use Rattle.std.specs.Prelude.{◌≡◌, ◌^◌, ◌≤◌, true, false, [], length, replicate, Ok, Err};
+ghost use Rattle.std.specs.List.{All};
 ghost use Rattle.shape.specs.Numbers.{levels_fit};
 ghost use Rattle.shape.specs.declared.make_error.MakeError.TheVariants.{Refused, NoMemory};
 ghost use Rattle.index.specs.Lists.{list_at};
 ghost use Rattle.gap_index.specs.Gaps.{GapsGiveTheList, ListGivesTheGaps, gaps_of};
-ghost use Rattle.gap_index.specs.Rows.{lists_of};
+ghost use Rattle.gap_index.specs.Rows.{lists_of, rooms_of, powers};
 ghost use Rattle.gap_index.specs.Levels.{lists_lawful};
 
 mod row;
@@ -25,7 +25,7 @@ pub struct GapIndex {
     rows: Vec<Row>,
     ghost low: { 1 ≤ levels.number },
     // there is a row for each level, with room for 2^l gaps at level l
-    ghost rooms: { map (λ r. vec_capacity r.gaps) rows.items ≡ map (λ l. 2 ^ l) (range_with_len 0 levels.number) },
+    ghost rooms: { rooms_of rows.items ≡ powers levels.number },
     // all members are addresses
     ghost inside: { All (λ r. r.next ≤ 2 ^ levels.number) rows.items },
 }
@@ -57,6 +57,7 @@ impl GapIndex {
     }
 }
 
+#[tactic(auto, using(crate::proofs::Rows::index_steps))]
 impl Index for GapIndex {
     ghost lists = { λ s. lists_of s.rows.items };
 

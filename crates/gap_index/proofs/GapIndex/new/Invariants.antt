@@ -1,12 +1,12 @@
-use Rattle.std.proofs.Common.{◌≡◌, ℕ, ◌^◌, ◌≤◌, List, Vec, map, replicate, [], vec_capacity, Global}
-use Rattle.std.specs.List.{All, range_with_len}
+use Rattle.std.proofs.Common.{◌≡◌, ℕ, ◌^◌, ◌≤◌, List, [], replicate, vec_capacity}
+use Rattle.std.specs.List.{All}
 use Rattle.gap_index.specs.declared.row.Row.{Row}
-use Rattle.gap_index.specs.Rows.{lists_of}
+use Rattle.gap_index.specs.Rows.{lists_of, rooms_of, powers}
 use Rattle.gap_index.proofs.GapIndex.new.Given as goal
 
--- the rows of the first n of L levels, empty
+-- the rows of the first n of L levels, all empty
 pub record Made (L n : ℕ) (rows : List Row) : Type 0 where
-  pub rooms : map (λ r. vec_capacity r.gaps) rows ≡ map (λ l. 2 ^ l) (range_with_len 0 n)
+  pub rooms : rooms_of rows ≡ powers n
   pub inside : All (λ r. r.next ≤ 2 ^ L) rows
   pub empty : lists_of rows ≡ replicate n []
 

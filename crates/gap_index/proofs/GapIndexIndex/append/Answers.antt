@@ -1,11 +1,8 @@
-use Rattle.std.proofs.Common.{arith, pow_mono, ◌≡◌, ◌<◌, ◌≤◌, ◌^◌, length, get_or, ◌∙◌}
-use Rattle.std.proofs.lemmas.List.{length-map, map-set, set-get_or}
+use Rattle.std.proofs.Common.{arith, pow_mono, ◌≤◌, ◌^◌, ◌∙◌}
 use Rattle.std.proofs.lemmas.List.Elements.{All-set}
-use Rattle.gap_index.specs.Levels.{list_is, room_is, rooms_set, rows_number}
+use Rattle.gap_index.specs.Levels.{list_is, room_is, rooms_set}
+use Rattle.gap_index.proofs.Rows.{index_steps}
 use Rattle.gap_index.proofs.GapIndexIndex.append.Goals as goal
-
-pub returns-then-address-blocks-clause-answer : goal.returns-then-address-blocks-clause-answer
-returns-then-address-blocks-clause-answer c = let s = c.args.self.now in grind (arith, rows_number s.levels.number s.rows.items, length-map)
 
 pub append-requires : goal.append-requires
 append-requires c = let s = c.args.self.now in omega (arith, pow_mono {i = s.levels.number} {j = 12} s.levels.high)
@@ -26,11 +23,8 @@ returns-clause-answer c =
     let s = c.args.self.now in
     let l = c.args.level in
     let r = c.in_ok-ok_or.field-0.now in
-    grind (arith, list_is s.rows.items l r, room_is s.levels.number s.rows.items l r, rows_number s.levels.number s.rows.items, length-map)
+    grind (arith, index_steps, list_is s.rows.items l r, room_is s.levels.number s.rows.items l r)
 
 pub returns-clause-lists : goal.returns-clause-lists
 returns-clause-lists c =
-    let s = c.args.self.now in
-    let l = c.args.level in
-    let r = c.in_ok-ok_or.field-0.now in
-    grind (arith, list_is s.rows.items l r, map-set, set-get_or)
+    grind (arith, index_steps, list_is c.args.self.now.rows.items c.args.level c.in_ok-ok_or.field-0.now)
