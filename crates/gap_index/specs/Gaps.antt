@@ -1,7 +1,6 @@
 -- What a gap index means: a rising list is kept as its gaps. The first gap is the first address plus 1, each further gap is the
 -- difference of two neighbours; so the members are the running sums of the gaps, minus 1.
-use Rattle.std.specs.Prelude.{◌≡◌, ℕ, ◌+◌, ◌-◌, ◌^◌, ◌<◌, cond, List, [], ◌∷◌, map, length, take, drop, Some, None, Option, slice_index}
-use Rattle.std.specs.List.{range_with_len}
+use Rattle.std.specs.Prelude.{◌≡◌, ℕ, ◌+◌, ◌-◌, ◌<◌, cond, List, [], ◌∷◌, length, Some, None, Option, slice_index}
 use Rattle.index.specs.Lists.{Rising, has, smaller}
 
 -- the gaps of a list whose members begin at an address
@@ -32,14 +31,6 @@ GapsGiveTheList = (xs : List ℕ) → Rising xs → listed (gaps_of xs) ≡ xs
 
 abbrev pub ListGivesTheGaps : Type 0
 ListGivesTheGaps = (gs : List ℕ) → Positive gs → gaps_of (listed gs) ≡ gs
-
--- the gaps of level l: the first of the 2^l numbers from place 2^l - 1 on, as many as the level has members
-unfoldable pub gaps_at : List ℕ → List ℕ → ℕ → List ℕ
-gaps_at sizes gaps l = take (slice_index sizes l) (drop (2 ^ l - 1) gaps)
-
--- the lists of the L levels
-unfoldable pub lists_of : ℕ → List ℕ → List ℕ → List (List ℕ)
-lists_of L sizes gaps = map (λ l. listed (gaps_at sizes gaps l)) (range_with_len 0 L)
 
 -- the rank of an address in one list
 abbrev pub rank_in : List ℕ → ℕ → Option ℕ

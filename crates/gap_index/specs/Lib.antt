@@ -1,3 +1,4 @@
 pub mod Gaps
+pub mod Rows
 pub mod Listed
 pub mod Levels

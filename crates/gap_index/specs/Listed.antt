@@ -1,7 +1,11 @@
 -- Gaps and the list that they mean: its length, members and order, and what one more gap adds.
-use Rattle.std.proofs.Common.{◌≡◌, ℕ, zero, suc, ◌+◌, ◌-◌, ◌<◌, ◌≤◌, Bool, true, false, cond, ◌&&◌, ◌||◌, eqb, ltb, leb, ◌⊎◌, List, [], ◌∷◌, ◌++◌, length, get_or, take, Some, None, sum, sym, refl, ap, ◌∙◌, inl, inr, arith}
-use Rattle.std.proofs.lemmas.List.Sums.{sum_by-cons, sum_by_push, sum_by_more, sum_by-take-le}
-use Rattle.std.proofs.lemmas.Bool.{lt-ltb, le-ltb, le-leb, lt-leb, eq-eqb, ne_eqb, cases_eq, cases_lt, and_left, cond-true, cond-false}
+use Rattle.std.proofs.Common.{◌≡◌, ℕ, zero, suc, ◌+◌, ◌-◌, ◌<◌, ◌≤◌, false, eqb, leb, List, [], ◌∷◌, ◌++◌, length, get_or, take, Some, None, sum, refl, ap, arith}
+use Rattle.std.specs.List.{slice_get}
+use Rattle.std.specs.Bool.{then_some}
+use Rattle.std.proofs.lemmas.Option.{slice_get_past}
+use Rattle.std.proofs.lemmas.List.{take_all}
+use Rattle.std.proofs.lemmas.List.Sums.{sum_by-cons, sum_by_more, sum_by-take-le}
+use Rattle.std.proofs.lemmas.Bool.Decides.{nat_tests}
 use Rattle.index.specs.Lists.{Rising, has, smaller, above}
 use Rattle.gap_index.specs.Gaps.{Positive, gaps_from, listed_from, listed, GapsGiveTheList, ListGivesTheGaps, rank_in}
 
@@ -10,10 +14,10 @@ use Rattle.gap_index.specs.Gaps.{Positive, gaps_from, listed_from, listed, GapsG
 sum_cons : (g : ℕ) (gs : List ℕ) → sum (g ∷ gs) ≡ g + sum gs
 sum_cons g gs = sum_by-cons (λ x. x) g gs
 
-pub first_positive : (g : ℕ) (gs : List ℕ) → Positive (g ∷ gs) → 0 < g
+first_positive : (g : ℕ) (gs : List ℕ) → Positive (g ∷ gs) → 0 < g
 first_positive g gs h = h 0 (omega arith)
 
-pub rest_positive : (g : ℕ) (gs : List ℕ) → Positive (g ∷ gs) → Positive gs
+rest_positive : (g : ℕ) (gs : List ℕ) → Positive (g ∷ gs) → Positive gs
 rest_positive g gs h p i = h (suc p) (omega arith)
 
 -- there are no more gaps than their sum
@@ -32,13 +36,7 @@ sum_front gs i = sum_by-take-le (λ x. x) gs i
 gaps_listed : (f : ℕ) (gs : List ℕ) → Positive gs → gaps_from f (listed_from f gs) ≡ gs
 unfolding gaps_from listed_from
 gaps_listed f [] h = refl
-gaps_listed f (g ∷ gs) h =
-    let pos = first_positive g gs h in
-    let e : (f + g - 1) + 1 ≡ f + g = omega arith in
-    let d : (f + g - 1) + 1 - f ≡ g = omega arith in
-    ap (λ (x : ℕ). x ∷ gaps_from ((f + g - 1) + 1) (listed_from (f + g) gs)) d
-    ∙ ap (λ (x : ℕ). g ∷ gaps_from x (listed_from (f + g) gs)) e
-    ∙ ap (λ (xs : List ℕ). g ∷ xs) (gaps_listed (f + g) gs (rest_positive g gs h))
+gaps_listed f (g ∷ gs) h = grind (arith, first_positive g gs h, gaps_listed (f + g) gs (rest_positive g gs h))
 
 pub list_gives_the_gaps : ListGivesTheGaps
 list_gives_the_gaps gs h = gaps_listed 0 gs h
@@ -48,11 +46,7 @@ unfolding gaps_from listed_from
 listed_gaps f [] rises from = refl
 listed_gaps f (x ∷ xs) rises from =
     let low : f ≤ x = from 0 (omega arith) in
-    let e : f + (x + 1 - f) ≡ x + 1 = omega arith in
-    let d : f + (x + 1 - f) - 1 ≡ x = omega arith in
-    ap (λ (y : ℕ). y ∷ listed_from (f + (x + 1 - f)) (gaps_from (x + 1) xs)) d
-    ∙ ap (λ (y : ℕ). x ∷ listed_from y (gaps_from (x + 1) xs)) e
-    ∙ ap (λ (ys : List ℕ). x ∷ ys) (listed_gaps (x + 1) xs (λ i j h l. rises (suc i) (suc j) (omega arith) (omega arith)) (λ p h. omega (arith, rises 0 (suc p) (omega arith) (omega arith))))
+    grind (arith, low, listed_gaps (x + 1) xs (λ i j h l. rises (suc i) (suc j) (omega arith) (omega arith)) (λ p h. omega (arith, rises 0 (suc p) (omega arith) (omega arith))))
 
 pub gaps_give_the_list : GapsGiveTheList
 gaps_give_the_list xs rises = listed_gaps 0 xs rises (λ p h. omega arith)
@@ -67,17 +61,18 @@ length_from f (g ∷ gs) = ap suc (length_from (f + g) gs)
 pub length_listed : (gs : List ℕ) → length (listed gs) ≡ length gs
 length_listed gs = length_from 0 gs
 
-member_from : (f : ℕ) (gs : List ℕ) (p : ℕ) → p < length gs → get_or (listed_from f gs) p 0 ≡ f + sum (take (p + 1) gs) - 1
+member_from : (f : ℕ) (gs : List ℕ) (p : ℕ) → p < length gs → slice_get (listed_from f gs) p ≡ Some (f + sum (take (p + 1) gs) - 1)
 unfolding listed_from
 member_from f [] p h = absurd (omega arith)
-member_from f (g ∷ gs) zero h = omega (arith, sum_cons g [])
-member_from f (g ∷ gs) (suc p) h =
-    let e : suc p + 1 ≡ suc (p + 1) = omega arith in
-    member_from (f + g) gs p (omega arith) ∙ omega (arith, sum_cons g (take (p + 1) gs), ap (λ (n : ℕ). sum (take n (g ∷ gs))) e)
+member_from f (g ∷ gs) zero h = grind (arith, sum_cons g [])
+member_from f (g ∷ gs) (suc p) h = grind (arith, member_from (f + g) gs p (omega arith), sum_cons g (take (p + 1) gs))
 
 -- a member is the sum of the gaps up to it, minus 1
-pub member_is : (gs : List ℕ) (p : ℕ) → p < length gs → get_or (listed gs) p 0 ≡ sum (take (p + 1) gs) - 1
-member_is gs p h = omega (arith, member_from 0 gs p h)
+pub member_is : (gs : List ℕ) (p : ℕ) → p < length gs → slice_get (listed gs) p ≡ Some (sum (take (p + 1) gs) - 1)
+member_is gs p h = grind (arith, member_from 0 gs p h)
+
+pub member_past : (gs : List ℕ) (p : ℕ) → length gs ≤ p → slice_get (listed gs) p ≡ None
+member_past gs p h = grind (arith, slice_get_past, length_listed)
 
 -- the members lie from where the gaps are counted up to their sum
 from_low : (f : ℕ) (gs : List ℕ) → Positive gs → (p : ℕ) → p < length (listed_from f gs) → f ≤ get_or (listed_from f gs) p 0
@@ -98,9 +93,8 @@ member_below gs h p i = omega (arith, from_high 0 gs h p i)
 from_rises : (f : ℕ) (gs : List ℕ) → Positive gs → Rising (listed_from f gs)
 unfolding listed_from
 from_rises f [] h i j o l = absurd (omega arith)
-from_rises f (g ∷ gs) h zero zero o l = absurd (omega arith)
+from_rises f (g ∷ gs) h i zero o l = absurd (omega arith)
 from_rises f (g ∷ gs) h zero (suc j) o l = omega (arith, first_positive g gs h, from_low (f + g) gs (rest_positive g gs h) j (omega arith))
-from_rises f (g ∷ gs) h (suc i) zero o l = absurd (omega arith)
 from_rises f (g ∷ gs) h (suc i) (suc j) o l = from_rises (f + g) gs (rest_positive g gs h) i j (omega arith) (omega arith)
 
 pub listed_rises : (gs : List ℕ) → Positive gs → Rising (listed gs)
@@ -108,115 +102,76 @@ listed_rises gs h = from_rises 0 gs h
 
 -- ---- one more gap
 
-from_push : (f : ℕ) (gs : List ℕ) (a : ℕ) → f + sum gs ≤ a → listed_from f (gs ++ (a + 1 - (f + sum gs)) ∷ []) ≡ listed_from f gs ++ a ∷ []
+from_push : (f : ℕ) (gs : List ℕ) (a g : ℕ) → f + sum gs + g ≡ a + 1 → listed_from f (gs ++ g ∷ []) ≡ listed_from f gs ++ a ∷ []
 unfolding listed_from
-from_push f [] a h = let e : f + (a + 1 - (f + 0)) - 1 ≡ a = omega arith in ap (λ (x : ℕ). x ∷ []) e
-from_push f (g ∷ gs) a h =
-    let e : a + 1 - (f + sum (g ∷ gs)) ≡ a + 1 - ((f + g) + sum gs) = omega (arith, sum_cons g gs) in
-    ap (λ (x : ℕ). (f + g - 1) ∷ listed_from (f + g) (gs ++ x ∷ [])) e
-    ∙ ap (λ (xs : List ℕ). (f + g - 1) ∷ xs) (from_push (f + g) gs a (omega (arith, sum_cons g gs)))
+from_push f [] a g e = grind arith
+from_push f (x ∷ gs) a g e = grind (arith, from_push (f + x) gs a g (omega (arith, sum_cons x gs)))
 
 -- the gap from the last member to an address above it adds that address
 pub listed_push : (gs : List ℕ) (a : ℕ) → sum gs ≤ a → listed (gs ++ (a + 1 - sum gs) ∷ []) ≡ listed gs ++ a ∷ []
-listed_push gs a h =
-    let e : a + 1 - sum gs ≡ a + 1 - (0 + sum gs) = omega arith in
-    ap (λ (x : ℕ). listed (gs ++ x ∷ [])) e ∙ from_push 0 gs a (omega arith)
-
-pub sum_push : (gs : List ℕ) (a : ℕ) → sum gs ≤ a → sum (gs ++ (a + 1 - sum gs) ∷ []) ≡ a + 1
-sum_push gs a h = omega (arith, sum_by_push (λ x. x) gs (a + 1 - sum gs))
+listed_push gs a h = from_push 0 gs a (a + 1 - sum gs) (omega arith)
 
 -- ---- above every member, and none
 
 above_from : (f : ℕ) (gs : List ℕ) (a : ℕ) → Positive gs → f ≤ a → above (listed_from f gs) a ≡ leb (f + sum gs) a
 unfolding listed_from
-above_from f [] a h l = sym (le-leb (f + 0) a (omega arith))
-above_from f (g ∷ gs) a h l = go (cases_lt a (f + g)) (λ m. above_from (f + g) gs a (rest_positive g gs h) m)
-  where
-    go : (a < f + g) ⊎ (f + g ≤ a) → (f + g ≤ a → above (listed_from (f + g) gs) a ≡ leb ((f + g) + sum gs) a) → (ltb (f + g - 1) a && above (listed_from (f + g) gs) a) ≡ leb (f + sum (g ∷ gs)) a
-    go (inl m) rest =
-        and_left (ltb (f + g - 1) a) (above (listed_from (f + g) gs) a) (le-ltb (f + g - 1) a (omega arith))
-        ∙ sym (lt-leb (f + sum (g ∷ gs)) a (omega (arith, sum_cons g gs)))
-    go (inr m) rest =
-        let e : (f + g) + sum gs ≡ f + sum (g ∷ gs) = omega (arith, sum_cons g gs) in
-        ap (λ (b : Bool). b && above (listed_from (f + g) gs) a) (lt-ltb (f + g - 1) a (omega (arith, first_positive g gs h)))
-        ∙ rest m ∙ ap (λ (n : ℕ). leb n a) e
+above_from f [] a h l = grind (arith, nat_tests)
+above_from f (g ∷ gs) a h l = grind (arith, nat_tests, above_from (f + g) gs a (rest_positive g gs h), first_positive g gs h, sum_cons g gs)
 
 -- an address lies above every member when it is not below the sum of the gaps
 pub above_is : (gs : List ℕ) (a : ℕ) → Positive gs → above (listed gs) a ≡ leb (sum gs) a
-above_is gs a h = let e : 0 + sum gs ≡ sum gs = omega arith in above_from 0 gs a h (omega arith) ∙ ap (λ (n : ℕ). leb n a) e
+above_is gs a h = grind (arith, above_from 0 gs a h)
 
 -- ---- ranks
 
 has_early : (f : ℕ) (gs : List ℕ) (a : ℕ) → Positive gs → a < f → has (listed_from f gs) a ≡ false
 unfolding listed_from
 has_early f [] a h l = refl
-has_early f (g ∷ gs) a h l =
-    let ne : eqb (f + g - 1) a ≡ false = ne_eqb (f + g - 1) a (λ e. omega (arith, first_positive g gs h)) in
-    ap (λ (b : Bool). b || has (listed_from (f + g) gs) a) ne ∙ has_early (f + g) gs a (rest_positive g gs h) (omega arith)
+has_early f (g ∷ gs) a h l = grind (arith, nat_tests, first_positive g gs h, has_early (f + g) gs a (rest_positive g gs h))
 
 has_late : (f : ℕ) (gs : List ℕ) (a : ℕ) → Positive gs → f + sum gs ≤ a → has (listed_from f gs) a ≡ false
 unfolding listed_from
 has_late f [] a h l = refl
-has_late f (g ∷ gs) a h l =
-    let ne : eqb (f + g - 1) a ≡ false = ne_eqb (f + g - 1) a (λ e. omega (arith, first_positive g gs h, sum_cons g gs)) in
-    ap (λ (b : Bool). b || has (listed_from (f + g) gs) a) ne ∙ has_late (f + g) gs a (rest_positive g gs h) (omega (arith, sum_cons g gs))
+has_late f (g ∷ gs) a h l = grind (arith, nat_tests, first_positive g gs h, sum_cons g gs, has_late (f + g) gs a (rest_positive g gs h))
 
 smaller_early : (f : ℕ) (gs : List ℕ) (a : ℕ) → Positive gs → a ≤ f → smaller (listed_from f gs) a ≡ 0
 unfolding listed_from
 smaller_early f [] a h l = refl
-smaller_early f (g ∷ gs) a h l =
-    let no : ltb (f + g - 1) a ≡ false = le-ltb (f + g - 1) a (omega (arith, first_positive g gs h)) in
-    ap (λ (b : Bool). cond b 1 0 + smaller (listed_from (f + g) gs) a) no ∙ omega (arith, smaller_early (f + g) gs a (rest_positive g gs h) (omega arith))
+smaller_early f (g ∷ gs) a h l = grind (arith, nat_tests, first_positive g gs h, smaller_early (f + g) gs a (rest_positive g gs h))
 
--- an address that the running sums pass at a position
+-- an address that the running sums pass at a position: that is its rank, and it is a member where they reach it
 pub record Passed (f : ℕ) (gs : List ℕ) (a i : ℕ) : Type 0 where
   pub rank : smaller (listed_from f gs) a ≡ i
   pub here : has (listed_from f gs) a ≡ eqb (a + 1) (f + sum (take (i + 1) gs))
 
-passed_from : (f : ℕ) (gs : List ℕ) (a i : ℕ) → Positive gs → i < length gs → f + sum (take i gs) ≤ a → a < f + sum (take (i + 1) gs) → Passed f gs a i
+passed : (f : ℕ) (gs : List ℕ) (a i : ℕ) → Positive gs → i < length gs → f + sum (take i gs) ≤ a → a < f + sum (take (i + 1) gs) → Passed f gs a i
 unfolding listed_from
-passed_from f [] a i h n low high = absurd (omega arith)
-passed_from f (g ∷ gs) a zero h n low high =
+passed f [] a i h n low high = absurd (omega arith)
+passed f (g ∷ gs) a zero h n low high =
     let pos = first_positive g gs h in
     let rest = rest_positive g gs h in
-    let first : sum (take (0 + 1) (g ∷ gs)) ≡ g = omega (arith, sum_cons g []) in
-    let no : ltb (f + g - 1) a ≡ false = le-ltb (f + g - 1) a (omega arith) in
     record {
-      rank = ap (λ (b : Bool). cond b 1 0 + smaller (listed_from (f + g) gs) a) no ∙ omega (arith, smaller_early (f + g) gs a rest (omega arith));
-      here = ap (λ (b : Bool). eqb (f + g - 1) a || b) (has_early (f + g) gs a rest (omega arith)) ∙ at (cases_eq (f + g - 1) a) pos first;
+      rank = grind (arith, nat_tests, sum_cons g [], smaller_early (f + g) gs a rest);
+      here = grind (arith, nat_tests, pos, sum_cons g [], has_early (f + g) gs a rest);
     }
-  where
-    at : (f + g - 1 ≡ a) ⊎ (f + g - 1 ≡ a → ⊥) → 0 < g → sum (take (0 + 1) (g ∷ gs)) ≡ g → (eqb (f + g - 1) a || false) ≡ eqb (a + 1) (f + sum (take (0 + 1) (g ∷ gs)))
-    at (inl e) pos first = rw (eq-eqb (f + g - 1) a e) (sym (eq-eqb (a + 1) (f + sum (take (0 + 1) (g ∷ gs))) (omega arith)))
-    at (inr ne) pos first = rw (ne_eqb (f + g - 1) a ne) (sym (ne_eqb (a + 1) (f + sum (take (0 + 1) (g ∷ gs))) (λ e. ne (omega arith))))
-passed_from f (g ∷ gs) a (suc i) h n low high =
+passed f (g ∷ gs) a (suc i) h n low high =
     let pos = first_positive g gs h in
-    let sums : sum (take (suc i) (g ∷ gs)) ≡ g + sum (take i gs) = sum_cons g (take i gs) in
-    let e : suc i + 1 ≡ suc (i + 1) = omega arith in
-    let more : sum (take (suc i + 1) (g ∷ gs)) ≡ g + sum (take (i + 1) gs) = ap (λ (n : ℕ). sum (take n (g ∷ gs))) e ∙ sum_cons g (take (i + 1) gs) in
-    let rest = passed_from (f + g) gs a i (rest_positive g gs h) (omega arith) (omega arith) (omega arith) in
-    let under : ltb (f + g - 1) a ≡ true = lt-ltb (f + g - 1) a (omega arith) in
-    let other : eqb (f + g - 1) a ≡ false = ne_eqb (f + g - 1) a (λ q. omega arith) in
-    let same : (f + g) + sum (take (i + 1) gs) ≡ f + sum (take (suc i + 1) (g ∷ gs)) = omega arith in
+    let front : sum (take (suc i) (g ∷ gs)) ≡ g + sum (take i gs) = sum_cons g (take i gs) in
+    let more : sum (take (suc i + 1) (g ∷ gs)) ≡ g + sum (take (i + 1) gs) = grind (arith, sum_cons g (take (i + 1) gs)) in
+    let rest = passed (f + g) gs a i (rest_positive g gs h) (omega arith) (omega arith) (omega arith) in
     record {
-      rank = ap (λ (b : Bool). cond b 1 0 + smaller (listed_from (f + g) gs) a) under ∙ omega (arith, rest.rank);
-      here = ap (λ (b : Bool). b || has (listed_from (f + g) gs) a) other ∙ rest.here ∙ ap (λ (n : ℕ). eqb (a + 1) n) same;
+      rank = grind (arith, nat_tests, pos, rest.rank);
+      here = grind (arith, nat_tests, pos, rest.here);
     }
 
-passed : (gs : List ℕ) (a i : ℕ) → Positive gs → i < length gs → sum (take i gs) ≤ a → a < sum (take (i + 1) gs) → Passed 0 gs a i
-passed gs a i h n low high = passed_from 0 gs a i h n (omega arith) (omega arith)
-
--- the rank of the address that the running sums reach, and none for one that they pass over
-pub rank_here : (gs : List ℕ) (a i : ℕ) → Positive gs → i < length gs → sum (take i gs) ≤ a → a + 1 ≡ sum (take (i + 1) gs) → Some i ≡ rank_in (listed gs) a
-rank_here gs a i h n low e =
-    let p = passed gs a i h n low (omega arith) in
-    let there : has (listed gs) a ≡ true = p.here ∙ eq-eqb (a + 1) (0 + sum (take (i + 1) gs)) (omega arith) in
-    sym (cond-true (has (listed gs) a) (Some (smaller (listed gs) a)) None there ∙ ap Some p.rank)
-
-pub rank_between : (gs : List ℕ) (a i : ℕ) → Positive gs → i < length gs → sum (take i gs) ≤ a → a < sum (take (i + 1) gs) → (a + 1 ≡ sum (take (i + 1) gs) → ⊥) → None ≡ rank_in (listed gs) a
-rank_between gs a i h n low high ne =
-    let p = passed gs a i h n low high in
-    sym (cond-false (has (listed gs) a) (Some (smaller (listed gs) a)) None (p.here ∙ ne_eqb (a + 1) (0 + sum (take (i + 1) gs)) (λ e. ne (omega arith))))
+pub rank_passed : (gs : List ℕ) (a i : ℕ) → Positive gs → i < length gs → sum (take i gs) ≤ a → a < sum (take (i + 1) gs) → then_some (eqb (a + 1) (sum (take (i + 1) gs))) i ≡ rank_in (listed gs) a
+rank_passed gs a i h n low high = grind (arith, passed 0 gs a i h n (omega arith) (omega arith))
 
 pub rank_after : (gs : List ℕ) (a : ℕ) → Positive gs → sum gs ≤ a → None ≡ rank_in (listed gs) a
-rank_after gs a h l = sym (cond-false (has (listed gs) a) (Some (smaller (listed gs) a)) None (has_late 0 gs a h (omega arith)))
+rank_after gs a h l = grind (arith, has_late 0 gs a h)
+
+-- ---- what the methods are proved with
+
+pub ruleset each_undoes = (gaps_give_the_list, list_gives_the_gaps)
+
+pub ruleset row_steps = (take_all, length_listed, length_le_sum, sum_more, sum_front, member_is, member_past, listed_push, above_is, rank_after)

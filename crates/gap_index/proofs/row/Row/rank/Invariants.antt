@@ -1,6 +1,6 @@
 use Rattle.std.proofs.Common.{◌≡◌, ◌≤◌, take, sum}
-use Rattle.gap_index.proofs.row.rank_of.Given as goal
+use Rattle.gap_index.proofs.row.Row.rank.Given as goal
 
 -- the members passed are at most the address
 abbrev pub invariant-loop-rank : goal.invariant-loop-rank
-invariant-loop-rank l = (l.next ≡ sum (take l.rank l.gaps)) × (l.next ≤ l.address)
+invariant-loop-rank l = (l.next ≡ sum (take l.rank l.self.gaps.items)) × (l.next ≤ l.address)
