@@ -1,5 +1,11 @@
 // The memory store: as many whole slots as fit into its bytes, at most 1,000,000.
-ghost use Rattle.std.specs.Prelude.{◌+◌, ◌*◌, ◌≤◌, vec_len};
+ghost use Rattle.std.specs.Prelude.{◌≡◌, ◌+◌, ◌*◌, ◌≤◌, length, is_ok, if◌then◌else◌, vec_len};
+ghost use Rattle.store.specs.Requests.{ran};
+ghost use Rattle.store.specs.Rounds.{answer, fetch_round, put_round, keys_at, bytes_at};
+ghost use Rattle.store.specs.Rule.{multiplied};
+ghost use Rattle.memory_store.specs.Memory.{whole_slots, decoded};
+ghost use Rattle.memory_store.specs.Slots.{decoded_wide};
+ghost use Rattle.std.proofs.Common.{arith};
 
 use crate::layout::{read_slot, write_slot};
 use shape::refusal::Refusal;
@@ -19,9 +25,6 @@ pub struct MemoryStore {
 }
 
 impl MemoryStore {
-    ghost use Rattle.std.specs.Prelude.{◌≡◌, vec_len};
-    ghost use Rattle.store.specs.Rule.{multiplied};
-    ghost use Rattle.memory_store.specs.Memory.{whole_slots, decoded};
     ghost use Rattle.memory_store.specs.Meaning.{meaning};
 
     // The slots are the decoding of the bytes.
@@ -29,7 +32,7 @@ impl MemoryStore {
         ensures result_value { meaning result ≡ record { width = width; slots = decoded width (whole_slots width (vec_len bytes)) bytes.items; served = 0; trail = 0; rule = multiplied } }
         ensures bytes_value { result.bytes ≡ bytes }
     {
-        // Where the sum is too large, so is a slot, and none fits.
+        // Slots that are too long to count are too long to fit.
         let places = (bytes.len() / width.saturating_add(4)).min(MOST) as u32;
         MemoryStore {
             bytes,
@@ -60,13 +63,9 @@ impl MemoryStore {
     }
 }
 
+#[tactic(auto, using(crate::specs::Slots::decoded_length))]
 impl Store for MemoryStore {
-    ghost use Rattle.std.specs.Prelude.{◌≡◌, length, is_ok, if◌then◌else◌};
-    ghost use Rattle.std.proofs.Common.{arith};
-    ghost use Rattle.store.specs.Requests.{ran};
-    ghost use Rattle.store.specs.Rounds.{answer, fetch_round, put_round, keys_at, bytes_at};
     ghost use Rattle.memory_store.specs.Meaning.{meaning, tail};
-    ghost use Rattle.memory_store.specs.Slots.{decoded_wide};
 
     ghost state = { meaning };
 
@@ -76,12 +75,10 @@ impl Store for MemoryStore {
         self.width
     }
 
-    #[tactic(auto, using(crate::specs::Slots::decoded_length))]
     fn places(&self) -> u32 {
         self.places
     }
 
-    #[tactic(auto, using(crate::specs::Slots::decoded_length))]
     fn fetch(&mut self, places: &[u32], keys: &mut [u32], bytes: &mut [u8]) -> Result<(), Refusal>
         ensures answer { result ≡ answer (meaning self.old) places.now (length keys.old) (length bytes.old) }
         ensures state { meaning self.new ≡ (if is_ok result then ran (meaning self.old) (fetch_round (meaning self.old) places.now) else meaning self.old) }
@@ -90,15 +87,15 @@ impl Store for MemoryStore {
         ensures memory { self.new.bytes ≡ self.old.bytes }
     {
         admit(self.width, self.places, places, keys.len(), bytes.len())?;
-        for (i, place) in places.iter().enumerate() {
+        // By index, since no proof knows what was written through the items of an iterator.
+        for (i, &place) in places.iter().enumerate() {
             let from = i * self.width;
-            keys[i] = read_slot(&self.bytes, *place, &mut bytes[from..from + self.width]);
+            keys[i] = read_slot(&self.bytes, place, &mut bytes[from..from + self.width]);
         }
         self.meter.run(places, false);
         Ok(())
     }
 
-    #[tactic(auto, using(crate::specs::Slots::decoded_length))]
     fn put(&mut self, places: &[u32], keys: &[u32], bytes: &[u8]) -> Result<(), Refusal>
         ensures answer { result ≡ answer (meaning self.old) places.now (length keys.now) (length bytes.now) }
         ensures state { meaning self.new ≡ (if is_ok result then ran (meaning self.old) (put_round (meaning self.old) places.now keys.now bytes.now) else meaning self.old) }
@@ -107,9 +104,9 @@ impl Store for MemoryStore {
         admit(self.width, self.places, places, keys.len(), bytes.len())?;
         let memory = self.bytes.as_mut_slice();
         let mut rest = bytes;
-        for (place, key) in places.iter().zip(keys) {
+        for (&place, &key) in places.iter().zip(keys) {
             let (payload, others) = rest.split_at(self.width);
-            write_slot(memory, *place, *key, payload);
+            write_slot(memory, place, key, payload);
             rest = others;
         }
         self.meter.run(places, true);

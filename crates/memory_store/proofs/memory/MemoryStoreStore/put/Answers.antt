@@ -1,13 +1,13 @@
-use Rattle.std.proofs.Common.{◌≡◌, ◌*◌, true, [], length, drop, vec_items, sym, ap, ◌∙◌, rules, arith}
+use Rattle.std.proofs.Common.{◌≡◌, ◌*◌, true, [], length, drop, vec_items, sym, ap, ◌∙◌, arith}
 use Rattle.std.proofs.lemmas.Grind.{common_steps}
 use Rattle.std.proofs.lemmas.List.{with_items_is}
 use Rattle.std.specs.Vec.{with_items}
 use Rattle.store.proofs.Admitted.{admitted}
 use Rattle.store.proofs.Rounds.{after_put}
-use Rattle.store.specs.Rounds.{verdict}
 use Rattle.memory_store.specs.Memory.{decoded, span, stored}
 use Rattle.memory_store.specs.Meaning.{meaning}
-use Rattle.memory_store.specs.Slots.{decoded_length, stored_decodes}
+use Rattle.memory_store.specs.Slots.{decoded_length}
+use Rattle.memory_store.proofs.Written.{stored_decodes}
 use Rattle.memory_store.proofs.memory.MemoryStoreStore.put.Goals as goal
 
 pub returns : goal.returns
