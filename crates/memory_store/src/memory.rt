@@ -32,7 +32,7 @@ impl MemoryStore {
         ensures result_value { meaning result ≡ record { width = width; slots = decoded width (whole_slots width (vec_len bytes)) bytes.items; served = 0; trail = 0; rule = multiplied } }
         ensures bytes_value { result.bytes ≡ bytes }
     {
-        // Slots that are too long to count are too long to fit.
+        // A slot whose length saturates is longer than any bytes.
         let places = (bytes.len() / width.saturating_add(4)).min(MOST) as u32;
         MemoryStore {
             bytes,
@@ -87,7 +87,7 @@ impl Store for MemoryStore {
         ensures memory { self.new.bytes ≡ self.old.bytes }
     {
         admit(self.width, self.places, places, keys.len(), bytes.len())?;
-        // By index, since no proof knows what was written through the items of an iterator.
+        // By index: what is written through `zip(keys.iter_mut())` or a rest of `bytes`, no proof knows after the loop.
         for (i, &place) in places.iter().enumerate() {
             let from = i * self.width;
             keys[i] = read_slot(&self.bytes, place, &mut bytes[from..from + self.width]);
