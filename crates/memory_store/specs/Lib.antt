@@ -1,4 +1,3 @@
 pub mod Memory
 pub mod Meaning
 pub mod Slots
-pub mod Bytes

@@ -3,6 +3,5 @@
 
 mod layout;
 pub mod memory;
-mod rounds;
 
 pub use memory::MemoryStore;
