@@ -1,6 +1,6 @@
 -- The halves of a level's numbers hold as many numbers as the level has slots.
 use Rattle.std.specs.Prelude.{◌≡◌, ℕ, ◌+◌, ◌^◌, ◌<◌}
-use Rattle.std.proofs.Common.{sym, ap, subst, arith}
+use Rattle.std.proofs.Common.{ap, arith}
 use Rattle.shape.specs.Numbers.{level_slots}
 use Rattle.keyed_supply.specs.Keyed.{left_width, right_width}
 

@@ -23,6 +23,7 @@ pub struct KeyedSupply {
     ghost wiped: { desk.words ≡ replicate 16 0 },
 }
 
+// What a question is answered with. A struct of its own: its words may be other than zero while a question lasts.
 #[derive(Drop)]
 struct Desk {
     key: Key,
@@ -56,6 +57,7 @@ impl Supply for KeyedSupply {
         MOST_BUILDS
     }
 
+    // This and `index_of` differ in the direction alone; a helper for what they share is longer, with its contract.
     fn slot_of(&mut self, build: u32, index: u32) -> Result<u32, Refusal>
         ensures answer { result ≡ slot_answer (keyed self.old.levels.number self.old.desk.key.words) build index }
         ensures same { keyed self.new.levels.number self.new.desk.key.words ≡ keyed self.old.levels.number self.old.desk.key.words }

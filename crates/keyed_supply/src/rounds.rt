@@ -36,7 +36,12 @@ impl Permutation<'_> {
         requires { bits ≤ 7 }
         ensures { result ≡ drawn self.now.key.now.words self.now.build self.now.level.number round half % 2 ^ bits }
     {
-        block::fill(words, self.key, half, [self.build, self.level.number, round]);
+        block::fill(
+            words,
+            self.key,
+            half,
+            [self.build, self.level.number, round],
+        );
         words[0] % (1 << bits)
     }
 
@@ -122,7 +127,7 @@ impl Permutation<'_> {
 
     // The number of two halves.
     fn join(&self, left: u32, right: u32) -> u32
-        requires { (left < 2 ^ left_width self.now.level.number) × (right < 2 ^ right_width self.now.level.number) }
+        requires { left * 2 ^ right_width self.now.level.number + right < level_slots self.now.level.number }
         ensures { result ≡ left * 2 ^ right_width self.now.level.number + right }
     {
         (left << self.right_bits()) + right

@@ -1,14 +1,9 @@
-use Rattle.std.proofs.Common.{refl}
-use Rattle.keyed_supply.specs.Rounds.{forth}
-use Rattle.keyed_supply.specs.Permutation.{network_of}
-use Rattle.keyed_supply.specs.Undoing.{forth_kept}
-use Rattle.keyed_supply.specs.Widths.{within_numbers}
+use Rattle.std.proofs.Common.{rules}
+use Rattle.keyed_supply.proofs.Joined.{forth_joined, forth_fits}
 use Rattle.keyed_supply.proofs.rounds.Permutation.forth.Goals as goal
 
 pub join-requires : goal.join-requires
-join-requires c =
-    rw (c.even-left.ensures, c.split-left.ensures) (forth_kept (network_of c.args.self.now) c.args.index (within_numbers _ _ c.requires))
+join-requires c = search (rules, forth_fits)
 
 pub returns : goal.returns
-unfolding forth
-returns c = rw (c.join.ensures, c.even-left.ensures, c.split-left.ensures) refl
+returns c = search (rules, forth_joined)
