@@ -3,4 +3,3 @@ pub mod Keyed
 pub mod Lawfulness
 pub mod Undoing
 pub mod Widths
-pub mod Permutation

@@ -16,8 +16,7 @@ pub struct Permutation<'a> {
 impl Permutation<'_> {
     ghost use Rattle.shape.specs.Numbers.{level_slots};
     ghost use Rattle.keyed_supply.specs.Rounds.{left_changed, right_changed, from_even, from_odd, back_even, back_odd, forth, back};
-    ghost use Rattle.keyed_supply.specs.Keyed.{drawn, left_width, right_width};
-    ghost use Rattle.keyed_supply.specs.Permutation.{network_of};
+    ghost use Rattle.keyed_supply.specs.Keyed.{drawn, left_width, right_width, network_of};
 
     fn left_bits(&self) -> u32
         ensures { result ≡ left_width self.now.level.number }
@@ -32,6 +31,7 @@ impl Permutation<'_> {
     }
 
     // F of a half, cut to the low bits.
+    #[tactic(auto, unfolding(crate::specs::Keyed::drawn))]
     fn draw(&self, words: &mut [u32; 16], round: u32, half: u32, bits: u32) -> u32
         requires { bits ≤ 7 }
         ensures { result ≡ drawn self.now.key.now.words self.now.build self.now.level.number round half % 2 ^ bits }
