@@ -18,6 +18,11 @@ get_d_part xs start n k h = get_or-take n (drop start xs) k 0 h ∙ get_or-drop 
 pub part_unnoted : (xs : List ℕ) (start size n m : ℕ) → n ≡ size → m ≡ size → Unnoted xs start (start + size) → Unnoted (take n (drop start xs)) 0 m
 part_unnoted xs start size n m e f h k low high = get_d_part xs start n k (omega arith) ∙ h (start + k) (omega arith) (omega arith)
 
+-- what holds of a part as the code cuts it, holds of the part
+pub as_part : (P : ℕ → List ℕ → Type 0) (xs : List ℕ) (start size n : ℕ) → n ≡ size → start + size ≤ length xs → P (length (take n (drop start xs))) (take n (drop start xs)) → P size (take size (drop start xs))
+as_part P xs start size n e h p =
+    subst (λ (k : ℕ). P size (take k (drop start xs))) e (subst (λ (k : ℕ). P k (take n (drop start xs))) (length_part xs start size n e h) p)
+
 -- ---- what a write to a part leaves
 
 within_part : (xs ys : List ℕ) (start n k : ℕ) → start ≤ length xs → k < length ys → slice_index (put_mid start n xs ys) (start + k) ≡ slice_index ys k
@@ -36,15 +41,13 @@ beside_part xs ys start size n k e f h (inr l) =
 
 -- ---- the inverse of a part, in its place
 
-moved : (r : Bool) (n : ℕ) (p ys zs : List ℕ) (start : ℕ) → ((s : ℕ) → s < n → slice_index zs (start + s) ≡ slice_index ys s) → Inverted r n p ys 0 → Inverted r n p zs start
-moved true n p ys zs start same (is, inverse) = (is, λ s h. same s h ∙ sym (ap (λ (x : ℕ). slice_index ys x) (zero-add s)) ∙ inverse s h)
-moved false n p ys zs start same none = none
+moved : (n : ℕ) (p ys zs : List ℕ) (start : ℕ) → ((s : ℕ) → s < n → slice_index zs (start + s) ≡ slice_index ys s) → Inverted n p ys 0 → Inverted n p zs start
+moved n p ys zs start same (is, inverse) = (is, λ s h. same s h ∙ sym (ap (λ (x : ℕ). slice_index ys x) (zero-add s)) ∙ inverse s h)
 
-pub part_inverted : (r : Bool) (slots xs ys : List ℕ) (start size n : ℕ) → n ≡ size → start + size ≤ length slots → length xs ≡ length slots → length ys ≡ size → Inverted r (length (take n (drop start slots))) (take n (drop start slots)) ys 0 → Inverted r size (take size (drop start slots)) (put_mid start n xs ys) start
-part_inverted r slots xs ys start size n e h f g answer =
-    moved r size (take size (drop start slots)) ys (put_mid start n xs ys) start (λ s l. within_part xs ys start n s (omega arith) (omega arith))
-    (subst (λ (k : ℕ). Inverted r size (take k (drop start slots)) ys 0) e
-    (subst (λ (k : ℕ). Inverted r k (take n (drop start slots)) ys 0) (length_part slots start size n e h) answer))
+pub part_inverted : (slots xs ys : List ℕ) (start size n : ℕ) → n ≡ size → start + size ≤ length slots → length xs ≡ length slots → length ys ≡ size → Inverted (length (take n (drop start slots))) (take n (drop start slots)) ys 0 → Inverted size (take size (drop start slots)) (put_mid start n xs ys) start
+part_inverted slots xs ys start size n e h f g answer =
+    moved size (take size (drop start slots)) ys (put_mid start n xs ys) start (λ s l. within_part xs ys start n s (omega arith) (omega arith))
+    (as_part (λ (m : ℕ) (p : List ℕ). Inverted m p ys 0) slots start size n e h answer)
 
 -- ---- one part after another
 
@@ -66,7 +69,7 @@ inverting_none L slots indices e h = record {
   unnoted = h;
 }
 
-pub inverting_more : (L : ℕ) (slots old new : List ℕ) (b start size : ℕ) → Inverting L slots old b start → size ≡ part_slots L b → length new ≡ length old → Inverted true size (take size (drop start slots)) new start → ((k : ℕ) → (k < start) ⊎ (start + size ≤ k) → slice_index new k ≡ slice_index old k) → Inverting L slots new (b + 1) (start + size)
+pub inverting_more : (L : ℕ) (slots old new : List ℕ) (b start size : ℕ) → Inverting L slots old b start → size ≡ part_slots L b → length new ≡ length old → Inverted size (take size (drop start slots)) new start → ((k : ℕ) → (k < start) ⊎ (start + size ≤ k) → slice_index new k ≡ slice_index old k) → Inverting L slots new (b + 1) (start + size)
 inverting_more L slots old new b start size done e f (is, inverse) others = record {
   started = omega (arith, done.started, before_more L b, ap (slots_before L) {x = b + 1} {y = suc b} (omega arith));
   beside = f ∙ done.beside;
