@@ -17,19 +17,13 @@ fn made(heap: Global, levels: u32, builds: u32, table: &[u32]) -> Result<TableSu
 }
 
 // The number of the refusal, if there is one; fails where the table does not come back as it was.
-fn taken(
-    heap: Global,
-    levels: u32,
-    builds: u32,
-    table: &[u32],
-) -> Result<Result<(), u32>, Fail> {
+fn taken(heap: Global, levels: u32, builds: u32, table: &[u32]) -> Result<Result<(), u32>, Fail> {
     let (slots, verdict) = match TableSupply::new(heap, levels, builds, table.to_vec(heap)?) {
         Ok(supply) => (supply.into_slots(), Ok(())),
-        Err(Untaken {
-            slots,
-            error: MakeError::Refused(refusal),
-        }) => (slots, Err(refusal.number())),
-        Err(untaken) => return Err(untaken.into()),
+        Err(Untaken { slots, error }) => match error {
+            MakeError::Refused(refusal) => (slots, Err(refusal.number())),
+            MakeError::NoMemory => return Err(error.into()),
+        },
     };
     if slots.as_slice() != table {
         return Err(Fail::new("the table did not come back as it was"));
@@ -104,7 +98,10 @@ fn a_million_builds(rt: HostRuntime) -> Result<(), Fail> {
     let mut supply = made(rt.alloc(), 1, 1_000_000, &slots)?;
     assert_eq!(rt; supply.slot_of(999_999, 1), Ok(1));
     assert_eq!(rt; supply.index_of(999_998, 3), Ok(3));
-    assert_eq!(rt; supply.slot_of(1_000_000, 0).map_err(Refusal::number), Err(12));
+    assert_eq!(rt;
+        supply.slot_of(1_000_000, 0).map_err(Refusal::number),
+        Err(12)
+    );
     Ok(())
 }
 

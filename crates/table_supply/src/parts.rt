@@ -15,7 +15,7 @@ use supply::within;
 pub(crate) const NO_INDEX: u32 = u32::MAX;
 
 // The slots of the builds before one. Odd builds are of level 0, and an even one has twice the slots that its half has with one level less.
-#[tactic(auto, using(crate::specs::Sums::counts))]
+#[tactic(auto, using(crate::proofs::Sums::counts))]
 fn slots_before(levels: Level, build: u32) -> usize
     ensures { result ≡ slots_before levels.number build }
 {
@@ -55,12 +55,7 @@ fn invert(part: &[u32], indices: &mut [u32]) -> Result<(), Refusal>
 }
 
 // Notes the indices of the part of one build, in its places of both tables.
-fn invert_part(
-    slots: &[u32],
-    indices: &mut [u32],
-    start: usize,
-    size: usize,
-) -> Result<(), Refusal>
+fn invert_part(slots: &[u32], indices: &mut [u32], start: usize, size: usize) -> Result<(), Refusal>
     requires small { size ≤ 8192 }
     requires inside { start + size ≤ length slots.now }
     requires beside { length indices.old ≡ length slots.now }
@@ -95,7 +90,7 @@ impl Parts {
     }
 
     // Notes the indices of all parts; refused where one of them is no permutation.
-    #[tactic(auto, using(crate::specs::Sums::counts))]
+    #[tactic(auto, using(crate::proofs::Sums::counts))]
     pub(crate) fn invert(self, slots: &[u32], indices: &mut [u32]) -> Result<(), Refusal>
         requires whole { length slots.now ≡ slots_before self.levels.number self.builds }
         requires beside { length indices.old ≡ length slots.now }
@@ -112,7 +107,7 @@ impl Parts {
     }
 
     // Where a number of a build stands in both tables.
-    #[tactic(auto, using(crate::specs::Sums::counts))]
+    #[tactic(auto, using(crate::proofs::Sums::counts))]
     pub(crate) fn place(self, build: u32, number: u32) -> Result<usize, Refusal>
         ensures { MatchResult result (λ place. (asked_within self.levels.number self.builds build number ≡ true) × (place ≡ slots_before self.levels.number build + number) × (place < slots_before self.levels.number self.builds)) (λ e. (asked_within self.levels.number self.builds build number ≡ false) × (e ≡ Refusal.BeyondSupply)) }
     {

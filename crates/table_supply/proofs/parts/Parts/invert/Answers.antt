@@ -1,7 +1,7 @@
 use Rattle.std.proofs.Common.{rules, ap, ◌∙◌, arith}
 use Rattle.shape.specs.Numbers.{level_slots}
-use Rattle.table_supply.specs.Sums.{part_inside}
-use Rattle.table_supply.specs.Places.{inverting_none, inverting_more}
+use Rattle.table_supply.proofs.Sums.{part_inside}
+use Rattle.table_supply.proofs.Inverting.{inverting_none, inverting_more}
 use Rattle.table_supply.proofs.parts.Parts.invert.Goals as goal
 
 pub loop-build-init : goal.loop-build-init

@@ -1,4 +1,4 @@
-use Rattle.table_supply.specs.Places.{Inverting}
+use Rattle.table_supply.proofs.Inverting.{Inverting}
 use Rattle.table_supply.proofs.parts.Parts.invert.Given as goal
 
 abbrev pub invariant-loop-build : goal.invariant-loop-build

@@ -1,10 +1,11 @@
 -- The slots of the builds before one: by halves, at most so many, and one part after another.
-use Rattle.std.specs.Prelude.{◌≡◌, ℕ, zero, suc, ◌+◌, ◌-◌, ◌*◌, ◌/◌, ◌%◌, ◌^◌, ◌<◌, ◌≤◌, ◌⊎◌, ◌≢◌, refl}
+use Rattle.std.specs.Prelude.{◌≡◌, ℕ, zero, suc, ◌+◌, ◌-◌, ◌*◌, ◌/◌, ◌%◌, ◌^◌, ◌<◌, ◌≤◌, ◌⊎◌, ◌≢◌, true, nat_lt, refl}
 use Rattle.std.proofs.Common.{inl, inr, ap, ◌∙◌, pow-suc, arith, pow_mono}
 use Rattle.std.specs.Int.Count.{under}
-use Rattle.std.proofs.lemmas.Bool.{cases_eq}
+use Rattle.std.proofs.lemmas.Bool.{cases_eq, and_parts, ltb-true}
 use Rattle.shape.specs.Numbers.{level_of_build}
 use Rattle.shape.proofs.Builds.{level_at_most}
+use Rattle.supply.specs.Choice.{asked_within}
 use Rattle.table_supply.specs.Table.{part_slots, slots_before}
 
 -- ---- one build more
@@ -66,5 +67,11 @@ before_grows L b (suc d) =
 pub part_inside : (L b n : ℕ) → b < n → slots_before L b + part_slots L b ≤ slots_before L n
 part_inside L b n h =
     omega (arith, before_more L b, before_grows L (suc b) (n - suc b), ap (slots_before L) {x = suc b + (n - suc b)} {y = n} (omega arith))
+
+-- a place lies within the parts of the first K builds
+pub placed : (L K b x n : ℕ) → asked_within L K b x ≡ true → n ≡ slots_before L b → n + x < slots_before L K
+placed L K b x n t e =
+    let w = and_parts (nat_lt b K) (nat_lt x (part_slots L b)) t in
+    omega (arith, ltb-true x (part_slots L b) w.1, part_inside L b K (ltb-true b K w.0))
 
 pub ruleset counts = (before_level_zero, before_halves, before_at_most, part_at_most, part_inside)
