@@ -74,4 +74,4 @@ placed L K b x n t e =
     let w = and_parts (nat_lt b K) (nat_lt x (part_slots L b)) t in
     omega (arith, ltb-true x (part_slots L b) w.1, part_inside L b K (ltb-true b K w.0))
 
-pub ruleset counts = (before_level_zero, before_halves, before_at_most, part_at_most, part_inside)
+pub ruleset counts = (before_level_zero, before_halves, before_at_most)

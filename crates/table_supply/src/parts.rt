@@ -90,7 +90,7 @@ impl Parts {
     }
 
     // Notes the indices of all parts; refused where one of them is no permutation.
-    #[tactic(auto, using(crate::proofs::Sums::counts))]
+    #[tactic(auto, using(crate::proofs::Sums::part_at_most))]
     pub(crate) fn invert(self, slots: &[u32], indices: &mut [u32]) -> Result<(), Refusal>
         requires whole { length slots.now ≡ slots_before self.levels.number self.builds }
         requires beside { length indices.old ≡ length slots.now }
@@ -107,7 +107,7 @@ impl Parts {
     }
 
     // Where a number of a build stands in both tables.
-    #[tactic(auto, using(crate::proofs::Sums::counts))]
+    #[tactic(auto, using(crate::proofs::Sums::before_at_most, crate::proofs::Sums::placed))]
     pub(crate) fn place(self, build: u32, number: u32) -> Result<usize, Refusal>
         ensures { MatchResult result (λ place. (asked_within self.levels.number self.builds build number ≡ true) × (place ≡ slots_before self.levels.number build + number) × (place < slots_before self.levels.number self.builds)) (λ e. (asked_within self.levels.number self.builds build number ≡ false) × (e ≡ Refusal.BeyondSupply)) }
     {
