@@ -59,7 +59,7 @@ impl Permutation<'_> {
         right ^ self.draw(words, round, left, self.right_bits())
     }
 
-    // The rules name this form: one function for an even round and one for an odd, that call each other, forth and back.
+    // The rules name this form, forth and back: two functions on halves as plain numbers call each other with the rounds left falling.
 
     // The rest of the rounds from an even one on.
     #[cycle(even_odd)]
