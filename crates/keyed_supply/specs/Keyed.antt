@@ -3,6 +3,7 @@ use Rattle.std.specs.Prelude.{ℕ, ◌+◌, ◌/◌, List, [], ◌∷◌, slice_
 use Rattle.chacha20.specs.ChaCha20.{block}
 use Rattle.shape.specs.Numbers.{level_of_build}
 use Rattle.supply.specs.Choice.{Choice}
+use Rattle.keyed_supply.specs.declared.rounds.Permutation.{Permutation}
 use Rattle.keyed_supply.specs.Rounds.{Network, forth, back}
 
 -- word 0 of the ChaCha20 block whose counter is a half, and whose nonce is build, level and round
@@ -18,6 +19,9 @@ right_width level = (level + 1) / 2
 
 abbrev pub network : List ℕ → ℕ → ℕ → Network
 network key build level = record { left_bits = left_width level; right_bits = right_width level; F = drawn key build level }
+
+abbrev pub network_of : Permutation → Network
+network_of p = network p.key.now.words p.build p.level.number
 
 abbrev pub keyed : ℕ → List ℕ → Choice
 keyed L key = record {

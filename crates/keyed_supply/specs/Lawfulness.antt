@@ -21,7 +21,7 @@ keyed_lawful L key low high = record {
 }
   where
     undone : (b x : ℕ) → x < build_slots (keyed L key) b → Undone (network key b (level_of_build L b)) x
-    undone b x l = directions_undo_each_other (network key b (level_of_build L b)) x (within_numbers key b (level_of_build L b) x l)
+    undone b x l = directions_undo_each_other (network key b (level_of_build L b)) x (within_numbers (level_of_build L b) x l)
 
     below : (b : ℕ) {y : ℕ} → y < numbers (network key b (level_of_build L b)) → y < build_slots (keyed L key) b
-    below b {y} = subst (λ (m : ℕ). y < m) (numbers_are_slots key b (level_of_build L b))
+    below b {y} = subst (λ (m : ℕ). y < m) (numbers_are_slots (level_of_build L b))

@@ -4,6 +4,7 @@ use Rattle.std.proofs.Math.Path.{refl, ap, ap₂, subst}
 use Rattle.std.proofs.Common.{sym, ◌∙◌, mod-lt, mul_comm, arith, pow_pos, pow-add}
 use Rattle.std.proofs.Math.Nat.{div-add-mod'}
 use Rattle.std.specs.Int.Bits.{xor_self, xor_assoc, xor_zero_r, xor_lt}
+use Rattle.std.proofs.lemmas.Bool.{not-true, not-false}
 use Rattle.std.proofs.lemmas.Nat.{div-mul-add, mod-mul-add, mul-add-lt, shr_below}
 use Rattle.keyed_supply.specs.Rounds.{Network, left_changed, right_changed, from_even, from_odd, back_even, back_odd, left_half, right_half, joined, forth, back, numbers, Undone, DirectionsUndoEachOther}
 
@@ -63,28 +64,20 @@ module _ (net : Network) where
         ∙ sym (ap (λ (b : Bool). from_even net n (round b i (rounds i h)).0 (round b i (rounds i h)).1) e)
         ∙ even_rest n (suc i) (omega (arith, p)) (ap not e) h
 
-  not_true : (b : Bool) → not b ≡ true → b ≡ false
-  not_true false p = refl
-  not_true true p = sym p
-
-  not_false : (b : Bool) → not b ≡ false → b ≡ true
-  not_false true p = refl
-  not_false false p = sym p
-
   mutual
     unfolding back_odd back_even round rounds_back even
 
     odd_back_rest : (n : ℕ) → even n ≡ true → (h : ℕ × ℕ) → back_odd net n h.0 h.1 ≡ rounds_back n h
     odd_back_rest zero e h = refl
     odd_back_rest (suc n) e h =
-        sym (ap (λ (b : Bool). back_even net n (round b n h).0 (round b n h).1) (not_true (even n) e))
-        ∙ even_back_rest n (not_true (even n) e) (round (even n) n h)
+        sym (ap (λ (b : Bool). back_even net n (round b n h).0 (round b n h).1) (not-true (even n) e))
+        ∙ even_back_rest n (not-true (even n) e) (round (even n) n h)
 
     even_back_rest : (n : ℕ) → even n ≡ false → (h : ℕ × ℕ) → back_even net n h.0 h.1 ≡ rounds_back n h
     even_back_rest zero e h = refl
     even_back_rest (suc n) e h =
-        sym (ap (λ (b : Bool). back_odd net n (round b n h).0 (round b n h).1) (not_false (even n) e))
-        ∙ odd_back_rest n (not_false (even n) e) (round (even n) n h)
+        sym (ap (λ (b : Bool). back_odd net n (round b n h).0 (round b n h).1) (not-false (even n) e))
+        ∙ odd_back_rest n (not-false (even n) e) (round (even n) n h)
 
   -- the halves keep to their widths
   abbrev pub Kept : ℕ × ℕ → Type 0
@@ -129,15 +122,6 @@ module _ (net : Network) where
   joined_of_halves : (x : ℕ) → joined net (halves x) ≡ x
   unfolding halves
   joined_of_halves x = div-add-mod' x (2 ^ net.right_bits)
-
-  -- the halves at the end keep to their widths too
-  pub forth_kept : (x : ℕ) → x < numbers net → Kept (from_even net 8 (left_half net x) (right_half net x))
-  unfolding halves even rounds
-  forth_kept x h = subst Kept (sym (even_rest 8 0 refl refl (halves x))) (rounds_keep 8 (halves x) (halves_keep x h))
-
-  pub back_kept : (x : ℕ) → x < numbers net → Kept (back_odd net 8 (left_half net x) (right_half net x))
-  unfolding halves even
-  back_kept x h = subst Kept (sym (odd_back_rest 8 refl (halves x))) (rounds_back_keep 8 (halves x) (halves_keep x h))
 
   forth_is : (x : ℕ) → forth net x ≡ joined net (rounds 8 (halves x))
   unfolding forth halves even rounds

@@ -3,5 +3,4 @@
 
 pub mod keyed;
 pub mod law;
-mod question;
 mod rounds;

@@ -1,207 +1,155 @@
 // Inner: eight rounds on the two halves of a number, forth and back.
-ghost use Rattle.std.specs.Prelude.{◌≡◌, ◌+◌, ◌*◌, ◌/◌, ◌%◌, ◌^◌, ◌<◌, ◌≤◌, [], ◌∷◌};
-ghost use Rattle.shape.specs.Numbers.{level_slots};
-ghost use Rattle.keyed_supply.specs.Rounds.{left_changed, right_changed, from_even, from_odd, back_even, back_odd, forth, back};
-ghost use Rattle.keyed_supply.specs.Keyed.{drawn, left_width, right_width, network};
+ghost use Rattle.std.specs.Prelude.{◌≡◌, ◌+◌, ◌*◌, ◌/◌, ◌%◌, ◌^◌, ◌<◌, ◌≤◌};
 
 use chacha20::block;
 use chacha20::key::Key;
+use shape::level::Level;
 
-// What permutation is meant: that of a build, which goes to a level.
+// The permutation that a key gives for a build, which goes to a level.
 #[derive(Clone, Copy)]
-pub struct Build {
-    pub number: u32,
-    pub level: u32,
+pub struct Permutation<'a> {
+    pub key: &'a Key,
+    pub build: u32,
+    pub level: Level,
 }
 
-fn left_bits(level: u32) -> u32
-    requires { level ≤ 12 }
-    ensures { result ≡ left_width level }
-{
-    (level + 2) / 2
-}
+impl Permutation<'_> {
+    ghost use Rattle.shape.specs.Numbers.{level_slots};
+    ghost use Rattle.keyed_supply.specs.Rounds.{left_changed, right_changed, from_even, from_odd, back_even, back_odd, forth, back};
+    ghost use Rattle.keyed_supply.specs.Keyed.{drawn, left_width, right_width, network_of};
 
-fn right_bits(level: u32) -> u32
-    requires { level ≤ 12 }
-    ensures { result ≡ right_width level }
-{
-    (level + 1) / 2
-}
-
-fn nonce(build: Build, round: u32) -> [u32; 3]
-    ensures { result ≡ build.number ∷ build.level ∷ round ∷ [] }
-{
-    [build.number, build.level, round]
-}
-
-// F of a half, cut to the low bits.
-fn draw(words: &mut [u32; 16], key: &Key, build: Build, round: u32, half: u32, bits: u32) -> u32
-    requires { bits ≤ 7 }
-    ensures { result ≡ drawn key.now.words build.number build.level round half % 2 ^ bits }
-{
-    block::fill(words, key, half, nonce(build, round));
-    words[0] % (1 << bits)
-}
-
-// The left half after an even round.
-fn change_left(
-    words: &mut [u32; 16],
-    key: &Key,
-    build: Build,
-    round: u32,
-    left: u32,
-    right: u32,
-) -> u32
-    requires { build.level ≤ 12 }
-    ensures { result ≡ left_changed (network key.now.words build.number build.level) round left right }
-{
-    left ^ draw(words, key, build, round, right, left_bits(build.level))
-}
-
-// The right half after an odd round.
-fn change_right(
-    words: &mut [u32; 16],
-    key: &Key,
-    build: Build,
-    round: u32,
-    left: u32,
-    right: u32,
-) -> u32
-    requires { build.level ≤ 12 }
-    ensures { result ≡ right_changed (network key.now.words build.number build.level) round left right }
-{
-    right ^ draw(words, key, build, round, left, right_bits(build.level))
-}
-
-// The rest of the rounds from an even one on.
-#[cycle(even_odd)]
-fn even(
-    words: &mut [u32; 16],
-    key: &Key,
-    build: Build,
-    rounds: u32,
-    left: u32,
-    right: u32,
-) -> (u32, u32)
-    requires { (build.level ≤ 12) × (rounds ≤ 8) }
-    ensures { result ≡ from_even (network key.now.words build.number build.level) rounds left right }
-{
-    if rounds == 0 {
-        return (left, right);
+    fn left_bits(&self) -> u32
+        ensures { result ≡ left_width self.now.level.number }
+    {
+        (self.level.number + 2) / 2
     }
-    let left = change_left(words, key, build, 8 - rounds, left, right);
-    odd(words, key, build, rounds - 1, left, right)
-}
 
-// The rest of the rounds from an odd one on.
-#[cycle(even_odd)]
-fn odd(
-    words: &mut [u32; 16],
-    key: &Key,
-    build: Build,
-    rounds: u32,
-    left: u32,
-    right: u32,
-) -> (u32, u32)
-    requires { (build.level ≤ 12) × (rounds ≤ 8) }
-    ensures { result ≡ from_odd (network key.now.words build.number build.level) rounds left right }
-{
-    if rounds == 0 {
-        return (left, right);
+    fn right_bits(&self) -> u32
+        ensures { result ≡ right_width self.now.level.number }
+    {
+        (self.level.number + 1) / 2
     }
-    let right = change_right(words, key, build, 8 - rounds, left, right);
-    even(words, key, build, rounds - 1, left, right)
-}
 
-// The rounds back, from an odd one down.
-#[cycle(even_back_odd_back)]
-fn odd_back(
-    words: &mut [u32; 16],
-    key: &Key,
-    build: Build,
-    rounds: u32,
-    left: u32,
-    right: u32,
-) -> (u32, u32)
-    requires { (build.level ≤ 12) × (rounds ≤ 8) }
-    ensures { result ≡ back_odd (network key.now.words build.number build.level) rounds left right }
-{
-    if rounds == 0 {
-        return (left, right);
+    // F of a half, cut to the low bits.
+    #[tactic(auto, unfolding(crate::specs::Keyed::drawn))]
+    fn draw(&self, words: &mut [u32; 16], round: u32, half: u32, bits: u32) -> u32
+        requires { bits ≤ 7 }
+        ensures { result ≡ drawn self.now.key.now.words self.now.build self.now.level.number round half % 2 ^ bits }
+    {
+        block::fill(
+            words,
+            self.key,
+            half,
+            [self.build, self.level.number, round],
+        );
+        words[0] % (1 << bits)
     }
-    let right = change_right(words, key, build, rounds - 1, left, right);
-    even_back(words, key, build, rounds - 1, left, right)
-}
 
-// The rounds back, from an even one down.
-#[cycle(even_back_odd_back)]
-fn even_back(
-    words: &mut [u32; 16],
-    key: &Key,
-    build: Build,
-    rounds: u32,
-    left: u32,
-    right: u32,
-) -> (u32, u32)
-    requires { (build.level ≤ 12) × (rounds ≤ 8) }
-    ensures { result ≡ back_even (network key.now.words build.number build.level) rounds left right }
-{
-    if rounds == 0 {
-        return (left, right);
+    // The left half after an even round.
+    fn change_left(&self, words: &mut [u32; 16], round: u32, left: u32, right: u32) -> u32
+        ensures { result ≡ left_changed (network_of self.now) round left right }
+    {
+        left ^ self.draw(words, round, right, self.left_bits())
     }
-    let left = change_left(words, key, build, rounds - 1, left, right);
-    odd_back(words, key, build, rounds - 1, left, right)
-}
 
-// All eight rounds.
-fn all_forth(words: &mut [u32; 16], key: &Key, build: Build, left: u32, right: u32) -> (u32, u32)
-    requires { build.level ≤ 12 }
-    ensures { result ≡ from_even (network key.now.words build.number build.level) 8 left right }
-{
-    even(words, key, build, 8, left, right)
-}
+    // The right half after an odd round.
+    fn change_right(&self, words: &mut [u32; 16], round: u32, left: u32, right: u32) -> u32
+        ensures { result ≡ right_changed (network_of self.now) round left right }
+    {
+        right ^ self.draw(words, round, left, self.right_bits())
+    }
 
-// All eight rounds back.
-fn all_back(words: &mut [u32; 16], key: &Key, build: Build, left: u32, right: u32) -> (u32, u32)
-    requires { build.level ≤ 12 }
-    ensures { result ≡ back_odd (network key.now.words build.number build.level) 8 left right }
-{
-    odd_back(words, key, build, 8, left, right)
-}
+    // The rules name this form, forth and back: two functions on halves as plain numbers call each other with the rounds left falling.
 
-// The halves of a number that a level has a slot for.
-fn split(number: u32, level: u32) -> (u32, u32)
-    requires { level ≤ 12 }
-    ensures { result ≡ (number / 2 ^ right_width level, number % 2 ^ right_width level) }
-{
-    let bits = right_bits(level);
-    (number >> bits, number % (1 << bits))
-}
+    // The rest of the rounds from an even one on.
+    #[cycle(even_odd)]
+    #[tactic(auto, using(crate::proofs::Steps::steps))]
+    fn even(&self, words: &mut [u32; 16], rounds: u32, left: u32, right: u32) -> (u32, u32)
+        requires { rounds ≤ 8 }
+        ensures { result ≡ from_even (network_of self.now) rounds left right }
+    {
+        if rounds == 0 {
+            return (left, right);
+        }
+        let left = self.change_left(words, 8 - rounds, left, right);
+        self.odd(words, rounds - 1, left, right)
+    }
 
-// The number of two halves.
-fn join(left: u32, right: u32, level: u32) -> u32
-    requires { (level ≤ 12) × (left < 2 ^ left_width level) × (right < 2 ^ right_width level) }
-    ensures { result ≡ left * 2 ^ right_width level + right }
-{
-    (left << right_bits(level)) + right
-}
+    // The rest of the rounds from an odd one on.
+    #[cycle(even_odd)]
+    #[tactic(auto, using(crate::proofs::Steps::steps))]
+    fn odd(&self, words: &mut [u32; 16], rounds: u32, left: u32, right: u32) -> (u32, u32)
+        requires { rounds ≤ 8 }
+        ensures { result ≡ from_odd (network_of self.now) rounds left right }
+    {
+        if rounds == 0 {
+            return (left, right);
+        }
+        let right = self.change_right(words, 8 - rounds, left, right);
+        self.even(words, rounds - 1, left, right)
+    }
 
-// The slot of an index.
-pub fn forth(words: &mut [u32; 16], key: &Key, build: Build, index: u32) -> u32
-    requires { (build.level ≤ 12) × (index < level_slots build.level) }
-    ensures { result ≡ forth (network key.now.words build.number build.level) index }
-{
-    let (left, right) = split(index, build.level);
-    let (left, right) = all_forth(words, key, build, left, right);
-    join(left, right, build.level)
-}
+    // The rounds back, from an odd one down.
+    #[cycle(even_back_odd_back)]
+    #[tactic(auto, using(crate::proofs::Steps::steps))]
+    fn odd_back(&self, words: &mut [u32; 16], rounds: u32, left: u32, right: u32) -> (u32, u32)
+        requires { rounds ≤ 8 }
+        ensures { result ≡ back_odd (network_of self.now) rounds left right }
+    {
+        if rounds == 0 {
+            return (left, right);
+        }
+        let right = self.change_right(words, rounds - 1, left, right);
+        self.even_back(words, rounds - 1, left, right)
+    }
 
-// The index of a slot.
-pub fn back(words: &mut [u32; 16], key: &Key, build: Build, slot: u32) -> u32
-    requires { (build.level ≤ 12) × (slot < level_slots build.level) }
-    ensures { result ≡ back (network key.now.words build.number build.level) slot }
-{
-    let (left, right) = split(slot, build.level);
-    let (left, right) = all_back(words, key, build, left, right);
-    join(left, right, build.level)
+    // The rounds back, from an even one down.
+    #[cycle(even_back_odd_back)]
+    #[tactic(auto, using(crate::proofs::Steps::steps))]
+    fn even_back(&self, words: &mut [u32; 16], rounds: u32, left: u32, right: u32) -> (u32, u32)
+        requires { rounds ≤ 8 }
+        ensures { result ≡ back_even (network_of self.now) rounds left right }
+    {
+        if rounds == 0 {
+            return (left, right);
+        }
+        let left = self.change_left(words, rounds - 1, left, right);
+        self.odd_back(words, rounds - 1, left, right)
+    }
+
+    // The halves of a number that the level has a slot for.
+    fn split(&self, number: u32) -> (u32, u32)
+        ensures { result ≡ (number / 2 ^ right_width self.now.level.number, number % 2 ^ right_width self.now.level.number) }
+    {
+        let bits = self.right_bits();
+        (number >> bits, number % (1 << bits))
+    }
+
+    // The number of two halves.
+    fn join(&self, left: u32, right: u32) -> u32
+        requires { left * 2 ^ right_width self.now.level.number + right < level_slots self.now.level.number }
+        ensures { result ≡ left * 2 ^ right_width self.now.level.number + right }
+    {
+        (left << self.right_bits()) + right
+    }
+
+    // The slot of an index.
+    pub fn forth(&self, words: &mut [u32; 16], index: u32) -> u32
+        requires { index < level_slots self.now.level.number }
+        ensures { result ≡ forth (network_of self.now) index }
+    {
+        let (left, right) = self.split(index);
+        let (left, right) = self.even(words, 8, left, right);
+        self.join(left, right)
+    }
+
+    // The index of a slot.
+    pub fn back(&self, words: &mut [u32; 16], slot: u32) -> u32
+        requires { slot < level_slots self.now.level.number }
+        ensures { result ≡ back (network_of self.now) slot }
+    {
+        let (left, right) = self.split(slot);
+        let (left, right) = self.odd_back(words, 8, left, right);
+        self.join(left, right)
+    }
 }

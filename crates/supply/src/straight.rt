@@ -5,7 +5,7 @@ ghost use Rattle.supply.specs.Choice.{slot_answer};
 ghost use Rattle.supply.specs.Straight.{straight};
 ghost use Rattle.std.proofs.Common.{rules};
 
-use crate::supply::Supply;
+use crate::supply::{MOST_BUILDS, Supply};
 use crate::within;
 use shape::level::Level;
 use shape::refusal::Refusal;
@@ -15,8 +15,6 @@ pub struct Straight {
     levels: Level,
     ghost low: { 1 ≤ levels.number },
 }
-
-const BUILDS: u32 = 1_000_000;
 
 impl Straight {
     pub fn new(levels: u32) -> Result<Straight, Refusal>
@@ -31,7 +29,7 @@ impl Straight {
     fn partner(&self, build: u32, number: u32) -> Result<u32, Refusal>
         ensures { result ≡ slot_answer (straight self.now.levels.number) build number }
     {
-        within::level_of(self.levels, BUILDS, build, number)?;
+        within::level_of(self.levels, MOST_BUILDS, build, number)?;
         Ok(number)
     }
 }
@@ -46,7 +44,7 @@ impl Supply for Straight {
     }
 
     fn builds(&self) -> u32 {
-        BUILDS
+        MOST_BUILDS
     }
 
     fn slot_of(&mut self, build: u32, index: u32) -> Result<u32, Refusal> {

@@ -4,6 +4,9 @@ ghost use Rattle.supply.specs.Choice.{Choice, Lawful, slot_answer, index_answer}
 
 use shape::refusal::Refusal;
 
+// The most builds that a supply can have.
+pub const MOST_BUILDS: u32 = 1_000_000;
+
 pub trait Supply {
     ghost choice: { Self → Choice };
 

@@ -1,1 +1,3 @@
+pub mod Inverting
 pub mod Noting
+pub mod Sums

@@ -1,5 +1,5 @@
 -- Noting the index of every slot of a part: it fails where the part is no permutation, and else gives the inverse.
-use Rattle.std.proofs.Common.{◌≡◌, ℕ, ◌+◌, ◌<◌, ◌≤◌, true, false, eqb, ltb, ◌⊎◌, List, length, get_or, set, sym, refl, ap, ◌∙◌, inl, inr, zero-add, arith}
+use Rattle.std.proofs.Common.{◌≡◌, ℕ, ◌+◌, ◌<◌, ◌≤◌, true, false, eqb, ltb, ◌⊎◌, List, length, get_or, set, sym, refl, ap, subst, ◌∙◌, inl, inr, zero-add, arith}
 use Rattle.std.proofs.lemmas.List.{length-set, get_or-set_same, get_or-set_other}
 use Rattle.std.proofs.lemmas.Bool.{and_parts, and_cases, ltb-true, ltb-false, eqb-true, eqb-false, cases_eq}
 use Rattle.permutations.specs.Tables.{IsPermutation, position}
@@ -26,9 +26,9 @@ noting_none part indices e h = record {
   held = λ s k. inl (h s (omega arith) k);
 }
 
-pub noting_more : (part indices : List ℕ) (i : ℕ) → Noting part indices i → i < no_index → is_free indices (get_or part i 0) ≡ true → Noting part (set indices (get_or part i 0) i) (i + 1)
+noting_one : (part indices : List ℕ) (i : ℕ) → Noting part indices i → i < no_index → is_free indices (get_or part i 0) ≡ true → Noting part (set indices (get_or part i 0) i) (i + 1)
 unfolding Held
-noting_more part indices i done small free = record {
+noting_one part indices i done small free = record {
   beside = length-set indices (get_or part i 0) i ∙ done.beside;
   below = λ j k. below j k (cases_eq j i);
   noted = λ j k. noted j k (cases_eq j i);
@@ -67,6 +67,9 @@ noting_more part indices i done small free = record {
         kept (inl g) = inl (v ∙ g)
         kept (inr (g, w)) = inr (omega (arith, v), ap (λ (x : ℕ). get_or part x 0) v ∙ w)
 
+pub noting_more : (part indices new : List ℕ) (i : ℕ) → Noting part indices i → i < no_index → is_free indices (get_or part i 0) ≡ true → new ≡ set indices (get_or part i 0) i → Noting part new (i + 1)
+noting_more part indices new i done small free e = subst (λ (xs : List ℕ). Noting part xs (i + 1)) (sym e) (noting_one part indices i done small free)
+
 -- a slot beyond the part, or one that stands at an earlier index too
 pub noting_fails : (part indices : List ℕ) (i : ℕ) → Noting part indices i → i < length part → is_free indices (get_or part i 0) ≡ false → IsPermutation (length part) part → ⊥
 unfolding Held
@@ -80,7 +83,7 @@ noting_fails part indices i done h taken is = by (and_cases (ltb (get_or part i 
         twice (inl g) = eqb-false _ _ e g
         twice (inr (g, w)) = omega (arith, g, is.apart (get_or indices (get_or part i 0) 0) i (omega arith) h w)
 
-pub noting_all : (part indices : List ℕ) (i : ℕ) → Noting part indices i → length part ≤ i → Inverted true (length part) part indices 0
+pub noting_all : (part indices : List ℕ) (i : ℕ) → Noting part indices i → length part ≤ i → Inverted (length part) part indices 0
 noting_all part indices i done h = (is, λ s k. ap (λ (x : ℕ). get_or indices x 0) (zero-add s) ∙ inverse s k)
   where
     is : IsPermutation (length part) part

@@ -1,35 +1,19 @@
 -- The inverse of a table, which holds for each build the index of every slot, and how it is made.
-use Rattle.std.specs.Prelude.{◌≡◌, ℕ, ◌+◌, ◌<◌, ◌≤◌, Bool, cond, ◌&&◌, List, length, Some, None, MatchBool, Option, ◌==◌, nat_lt, slice_index}
+use Rattle.std.specs.Prelude.{◌≡◌, ℕ, ◌+◌, ◌<◌, ◌≤◌, Bool, ◌&&◌, List, length, ◌==◌, nat_lt, slice_index}
 use Rattle.permutations.specs.Tables.{IsPermutation, position}
-use Rattle.table_supply.specs.Table.{part_slots, slots_before, part, Permuted}
+use Rattle.table_supply.specs.Table.{part_slots, slots_before, part}
 
 -- x is a number of build b, which is one of the first n
 abbrev pub Within : ℕ → ℕ → ℕ → ℕ → Type 0
 Within L n b x = (b < n) × (x < part_slots L b)
 
--- in the parts of the first n builds every slot lies within its build
-abbrev pub SlotsBelow : ℕ → List ℕ → ℕ → Type 0
-SlotsBelow L slots n = (b i : ℕ) → Within L n b i → slice_index (part L slots b) i < part_slots L b
-
--- and is found at its own index, so that none stands twice
-abbrev pub SlotsFound : ℕ → List ℕ → ℕ → Type 0
-SlotsFound L slots n = (b i : ℕ) → Within L n b i → position (part L slots b) (slice_index (part L slots b) i) ≡ i
-
 -- for the first n builds the second table holds the index of every slot
 abbrev pub Inverse : ℕ → List ℕ → ℕ → List ℕ → Type 0
 Inverse L slots n indices = (b s : ℕ) → Within L n b s → slice_index indices (slots_before L b + s) ≡ position (part L slots b) s
 
--- the parts of the first n builds are permutations, and a second table holds their inverses; or one of them is no permutation
-abbrev pub InvertedParts : Bool → ℕ → List ℕ → ℕ → List ℕ → Type 0
-InvertedParts r L slots n indices = MatchBool r (Permuted L slots n × Inverse L slots n indices) (Permuted L slots n → ⊥)
-
--- the same of one part of n slots, whose inverse stands from a place on
-abbrev pub Inverted : Bool → ℕ → List ℕ → List ℕ → ℕ → Type 0
-Inverted r n p indices start = MatchBool r (IsPermutation n p × ((s : ℕ) → s < n → slice_index indices (start + s) ≡ position p s)) (IsPermutation n p → ⊥)
-
--- where a number of a build stands in both tables; absent beyond the supply
-abbrev pub place_of : ℕ → ℕ → ℕ → ℕ → Option ℕ
-place_of L K b x = cond (nat_lt b K && nat_lt x (part_slots L b)) (Some (slots_before L b + x)) None
+-- a part of n slots is a permutation, and the second table holds its inverse from a place on
+abbrev pub Inverted : ℕ → List ℕ → List ℕ → ℕ → Type 0
+Inverted n p indices start = IsPermutation n p × ((s : ℕ) → s < n → slice_index indices (start + s) ≡ position p s)
 
 -- the mark of a slot that has no index yet
 abbrev pub no_index : ℕ

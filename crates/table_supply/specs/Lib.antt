@@ -1,5 +1,3 @@
 pub mod Table
 pub mod Inverses
 pub mod Right
-pub mod Sums
-pub mod Places

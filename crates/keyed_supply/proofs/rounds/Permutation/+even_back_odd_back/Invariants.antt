@@ -1,4 +1,4 @@
-use Rattle.keyed_supply.proofs.rounds.+even_back_odd_back.Given as goal
+use Rattle.keyed_supply.proofs.rounds.Permutation.+even_back_odd_back.Given as goal
 
 abbrev pub decreases-even_back : goal.decreases-even_back
 decreases-even_back l = l.rounds

@@ -1,4 +1,4 @@
-use Rattle.keyed_supply.proofs.rounds.+even_odd.Given as goal
+use Rattle.keyed_supply.proofs.rounds.Permutation.+even_odd.Given as goal
 
 abbrev pub decreases-even : goal.decreases-even
 decreases-even l = l.rounds
