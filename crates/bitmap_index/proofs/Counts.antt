@@ -1,23 +1,25 @@
 -- The members of a row, word by word: how many lie below an address, and which stands at a position.
-use Rattle.std.proofs.Common.{◌≡◌, ℕ, zero, suc, ◌+◌, ◌-◌, ◌*◌, ◌/◌, ◌%◌, ◌^◌, ◌<◌, ◌≤◌, Bool, true, false, cond, ◌⊎◌, List, ◌∷◌, ◌++◌, map, length, get_or, filter, sym, refl, ap, ◌∙◌, inl, inr, mod-eq_of_lt, arith}
+use Rattle.std.proofs.Common.{◌≡◌, ℕ, zero, suc, ◌+◌, ◌-◌, ◌*◌, ◌/◌, ◌%◌, ◌^◌, ◌<◌, ◌≤◌, false, not, List, ◌∷◌, ◌++◌, map, length, get_or, filter, take, sum_by, [], refl, mod-eq_of_lt, arith}
 use lib.Count.{ones}
-use Rattle.std.specs.List.{range_with_len, AllByRecursion}
-use Rattle.std.proofs.lemmas.List.{length-append, length-map, get_or_append_left, get_or-append-add, get_or-map}
-use Rattle.std.proofs.ByRecursion.{All-get_or}
-use Rattle.std.proofs.lemmas.Bool.{cases_eq}
+use lib.Bits.{bit_and, and_mask}
+use Rattle.std.proofs.lemmas.Nat.{one_shl}
+use Rattle.std.specs.List.{range_with_len}
+use Rattle.std.proofs.lemmas.List.{take_more}
+use Rattle.std.proofs.lemmas.List.Sums.{sum_by-append}
+use Rattle.std.proofs.lemmas.List.Filters.{length-filter_both}
+use Rattle.std.proofs.lemmas.List.FromFn.{length-range_with_len}
 use Rattle.bitmap_index.specs.Bitmap.{word_bit, bit_of, members, places_of}
-use Rattle.bitmap_index.specs.Kept.{Within, kept_within, kept_split, kept_same, kept_shift}
-use Rattle.bitmap_index.specs.Bits.{length_bits, length_places}
+use Rattle.index.specs.Lists.{has, smaller}
+use Rattle.std.proofs.lemmas.Grind.{common_steps}
+use Rattle.std.proofs.lemmas.Bool.Decides.{nat_tests}
+use Rattle.bitmap_index.specs.Rows.{kept_below}
+use Rattle.bitmap_index.proofs.Kept.{kept_split, kept_same, kept_shift, kept_has, smaller_kept}
+use Rattle.bitmap_index.proofs.Bits.{length_bits, length_places}
 
 -- the first k bits of word i add their addresses
-pub members_word : (ws : List ℕ) (i k : ℕ) → k ≤ 64 → members (64 * i + k) ws ≡ members (64 * i) ws ++ map (λ j. 64 * i + j) (filter (word_bit (get_or ws i 0)) (range_with_len 0 k))
+members_word : (ws : List ℕ) (i k : ℕ) → k ≤ 64 → members (64 * i + k) ws ≡ members (64 * i) ws ++ map (λ j. 64 * i + j) (filter (word_bit (get_or ws i 0)) (range_with_len 0 k))
 unfolding members bit_of
-members_word ws i k h =
-    kept_split (bit_of ws) 0 (64 * i) k
-    ∙ ap (λ (xs : List ℕ). filter (bit_of ws) (range_with_len 0 (64 * i)) ++ xs)
-    (ap (λ (a : ℕ). filter (bit_of ws) (range_with_len a k)) {x = 0 + 64 * i} {y = 64 * i + 0} (omega arith)
-    ∙ kept_shift (bit_of ws) (64 * i) 0 k
-    ∙ ap (map (λ (j : ℕ). 64 * i + j)) (kept_same (λ j. bit_of ws (64 * i + j)) (word_bit (get_or ws i 0)) 0 k bit))
+members_word ws i k h = grind (arith, kept_split (bit_of ws) 0 (64 * i) k, kept_shift (bit_of ws) (64 * i) 0 (64 * i) k (omega arith), kept_same (λ j. bit_of ws (64 * i + j)) (word_bit (get_or ws i 0)) 0 k bit)
   where
     bit : (j : ℕ) → 0 ≤ j → j < 0 + k → bit_of ws (64 * i + j) ≡ word_bit (get_or ws i 0) j
     bit j l m =
@@ -25,47 +27,42 @@ members_word ws i k h =
         let r : (64 * i + j) % 64 ≡ j = omega arith in
         rw (q, r) refl
 
-pub count_word : (ws : List ℕ) (i k : ℕ) → k ≤ 64 → length (members (64 * i + k) ws) ≡ length (members (64 * i) ws) + ones (get_or ws i 0 % 2 ^ k)
-count_word ws i k h =
-    let xs = filter (word_bit (get_or ws i 0)) (range_with_len 0 k) in
-    ap length (members_word ws i k h) ∙ length-append (members (64 * i) ws) (map (λ j. 64 * i + j) xs)
-    ∙ omega (arith, length-map xs (λ j. 64 * i + j), length_bits k (get_or ws i 0))
+count_word : (ws : List ℕ) (i k : ℕ) → k ≤ 64 → length (members (64 * i + k) ws) ≡ length (members (64 * i) ws) + ones (get_or ws i 0 % 2 ^ k)
+count_word ws i k h = grind (arith, common_steps, members_word ws i k h, length_bits k (get_or ws i 0))
 
 -- one more word
 pub count_more : (ws : List ℕ) (i w : ℕ) → w ≡ get_or ws i 0 → w < 2 ^ 64 → length (members (64 * (i + 1)) ws) ≡ length (members (64 * i) ws) + ones w
-count_more ws i w e h =
-    ap (λ (n : ℕ). length (members n ws)) {x = 64 * (i + 1)} {y = 64 * i + 64} (omega arith) ∙ count_word ws i 64 (omega arith)
-    ∙ ap (λ (v : ℕ). length (members (64 * i) ws) + ones (v % 2 ^ 64)) (sym e) ∙ ap (λ (v : ℕ). length (members (64 * i) ws) + ones v) (mod-eq_of_lt h)
+count_more ws i w e h = grind (arith, e, count_word ws i 64 (omega arith), mod-eq_of_lt h)
 
 -- an address inside its word
-pub count_inside : (ws : List ℕ) (a : ℕ) → length (members a ws) ≡ length (members (64 * (a / 64)) ws) + ones (get_or ws (a / 64) 0 % 2 ^ (a % 64))
-count_inside ws a = ap (λ (n : ℕ). length (members n ws)) {x = a} {y = 64 * (a / 64) + a % 64} (omega arith) ∙ count_word ws (a / 64) (a % 64) (omega arith)
+count_inside : (ws : List ℕ) (a : ℕ) → length (members a ws) ≡ length (members (64 * (a / 64)) ws) + ones (get_or ws (a / 64) 0 % 2 ^ (a % 64))
+count_inside ws a = grind (arith, count_word ws (a / 64) (a % 64) (omega arith))
 
-kept_few : (p : ℕ → Bool) (a n : ℕ) → length (filter p (range_with_len a n)) ≤ n
-kept_few p a zero = omega arith
-kept_few p a (suc n) = by (p a) (kept_few p (a + 1) n)
-  where
-    by : (t : Bool) → length (filter p (range_with_len (a + 1) n)) ≤ n → length (cond t (a ∷ filter p (range_with_len (a + 1) n)) (filter p (range_with_len (a + 1) n))) ≤ suc n
-    by true h = omega arith
-    by false h = omega arith
+pub members_zero : (ws : List ℕ) → length (members 0 ws) ≡ 0
+unfolding members
+members_zero ws = refl
+
+-- the whole words below word i
+count_words : (ws : List ℕ) (i : ℕ) → i ≤ length ws → ((k : ℕ) → get_or ws k 0 < 2 ^ 64) → sum_by ones (take i ws) ≡ length (members (64 * i) ws)
+count_words ws zero h fits = grind (arith, members_zero ws)
+count_words ws (suc i) h fits = grind (arith, take_more ws i 0, sum_by-append ones (take i ws) (get_or ws i 0 ∷ []), count_words ws i (omega arith) fits, count_more ws i (get_or ws i 0) refl (fits i))
+
+pub count_masked : (ws : List ℕ) (a : ℕ) → a < 64 * length ws → ((k : ℕ) → get_or ws k 0 < 2 ^ 64) → sum_by ones (take (a / 64) ws) + ones (bit_and (get_or ws (a / 64) 0) ((1 * 2 ^ (a % 64)) % 18446744073709551616 - 1)) ≡ length (members a ws)
+count_masked ws a below fits = grind (arith, one_shl (a % 64) 64 (omega arith), and_mask (get_or ws (a / 64) 0) (a % 64), count_words ws (a / 64) (omega arith) fits, count_inside ws a)
 
 pub members_few : (n : ℕ) (ws : List ℕ) → length (members n ws) ≤ n
 unfolding members
-members_few n ws = kept_few (bit_of ws) 0 n
+members_few n ws =
+    omega (arith, length-filter_both (bit_of ws) (λ a. not (bit_of ws a)) (λ a. refl) (range_with_len 0 n), length-range_with_len 0 n)
 
 -- more addresses add members only at the end
 pub members_more : (m n : ℕ) (ws : List ℕ) → m ≤ n → (p : ℕ) → p < length (members m ws) → get_or (members n ws) p 0 ≡ get_or (members m ws) p 0
 unfolding members
-members_more m n ws h p i =
-    ap (λ (k : ℕ). get_or (filter (bit_of ws) (range_with_len 0 k)) p 0) {x = n} {y = m + (n - m)} (omega arith)
-    ∙ ap (λ (xs : List ℕ). get_or xs p 0) (kept_split (bit_of ws) 0 m (n - m))
-    ∙ get_or_append_left (members m ws) (filter (bit_of ws) (range_with_len (0 + m) (n - m))) 0 p i
+members_more m n ws h p i = grind (arith, common_steps, kept_split (bit_of ws) 0 m (n - m))
 
 pub members_grow : (m n : ℕ) (ws : List ℕ) → m ≤ n → length (members m ws) ≤ length (members n ws)
 unfolding members
-members_grow m n ws h =
-    let e : length (members n ws) ≡ length (members m ws ++ filter (bit_of ws) (range_with_len (0 + m) (n - m))) = ap (λ (k : ℕ). length (filter (bit_of ws) (range_with_len 0 k))) {x = n} {y = m + (n - m)} (omega arith) ∙ ap length (kept_split (bit_of ws) 0 m (n - m)) in
-    omega (arith, e, length-append (members m ws) (filter (bit_of ws) (range_with_len (0 + m) (n - m))))
+members_grow m n ws h = grind (arith, common_steps, kept_split (bit_of ws) 0 m (n - m))
 
 -- a whole word
 members_whole : (ws : List ℕ) (i : ℕ) → members (64 * i + 64) ws ≡ members (64 * i) ws ++ map (λ j. 64 * i + j) (places_of (get_or ws i 0))
@@ -74,33 +71,29 @@ members_whole ws i = members_word ws i 64 (omega arith)
 
 -- the member at a position that lies in word i
 pub member_in_word : (ws : List ℕ) (i left w : ℕ) → i < length ws → w ≡ get_or ws i 0 → w < 2 ^ 64 → left < ones w → 64 * i + get_or (places_of w) left 0 ≡ get_or (members (64 * length ws) ws) (left + length (members (64 * i) ws)) 0
-member_in_word ws i left w h e fits small =
-    let xs = members (64 * i) ws in
-    let ys = places_of w in
-    let n : length ys ≡ ones w = length_places w fits in
-    let whole : members (64 * i + 64) ws ≡ xs ++ map (λ j. 64 * i + j) ys = members_whole ws i ∙ ap (λ (v : ℕ). xs ++ map (λ j. 64 * i + j) (places_of v)) (sym e) in
-    let long : length (members (64 * i + 64) ws) ≡ length xs + length ys = ap length whole ∙ length-append xs (map (λ j. 64 * i + j) ys) ∙ ap (λ (m : ℕ). length xs + m) (length-map ys (λ j. 64 * i + j)) in
-    sym (members_more (64 * i + 64) (64 * length ws) ws (omega arith) (left + length xs) (omega arith)
-    ∙ ap (λ (zs : List ℕ). get_or zs (left + length xs) 0) whole
-    ∙ ap (λ (p : ℕ). get_or (xs ++ map (λ j. 64 * i + j) ys) p 0) {x = left + length xs} {y = length xs + left} (omega arith)
-    ∙ get_or-append-add xs (map (λ j. 64 * i + j) ys) left 0
-    ∙ get_or-map (λ j. 64 * i + j) ys left 0 0 (omega arith))
-
-pub members_zero : (ws : List ℕ) → length (members 0 ws) ≡ 0
-unfolding members
-members_zero ws = refl
+member_in_word ws i left w h e fits small = grind (arith, common_steps, e, length_places w fits, members_whole ws i, members_more (64 * i + 64) (64 * length ws) ws (omega arith) (left + length (members (64 * i) ws)))
 
 -- a position that no word before i reaches lies in a word that there is
 pub word_inside : (ws : List ℕ) (i left p : ℕ) → left + length (members (64 * i) ws) ≡ p → p < length (members (64 * length ws) ws) → i ≤ length ws → i < length ws
-word_inside ws i left p e h l = go (cases_eq i (length ws))
-  where
-    go : (i ≡ length ws) ⊎ (i ≡ length ws → ⊥) → i < length ws
-    go (inl f) = absurd (omega (arith, e, h, ap (λ (j : ℕ). length (members (64 * j) ws)) f))
-    go (inr f) = omega arith
-
-places_within : (w : ℕ) → AllByRecursion (Within 0 64) (places_of w)
-unfolding places_of
-places_within w = kept_within (word_bit w) 0 64
+word_inside ws i left p e h l = grind (arith, e)
 
 pub places_below : (w p : ℕ) → p < length (places_of w) → get_or (places_of w) p 0 < 64
-places_below w p h = let m : Within 0 64 (get_or (places_of w) p 0) = All-get_or (Within 0 64) (places_of w) p 0 h (places_within w) in omega arith
+unfolding places_of
+places_below w p h = kept_below (word_bit w) 64 p h
+
+-- ---- an address among the members
+
+pub members_have : (n : ℕ) (ws : List ℕ) (a : ℕ) → a < n → has (members n ws) a ≡ bit_of ws a
+unfolding members
+members_have n ws a h = grind (arith, nat_tests, kept_has (bit_of ws) 0 n a)
+
+pub members_lack : (n : ℕ) (ws : List ℕ) (a : ℕ) → n ≤ a → has (members n ws) a ≡ false
+unfolding members
+members_lack n ws a h = grind (arith, nat_tests, kept_has (bit_of ws) 0 n a)
+
+pub members_smaller : (n : ℕ) (ws : List ℕ) (a : ℕ) → a ≤ n → smaller (members n ws) a ≡ length (members a ws)
+unfolding members
+members_smaller n ws a h = smaller_kept (bit_of ws) 0 n a a (omega arith) h
+
+-- what the counting of bits rests on
+pub ruleset word_facts = (length_places, members_zero, count_more, word_inside, places_below, member_in_word, members_few, count_masked)

@@ -1,2 +1,5 @@
+pub mod AllRows
+pub mod Bits
 pub mod Counts
-pub mod Fields
+pub mod Kept
+pub mod OneRow

@@ -1,5 +1,5 @@
 -- What a bitmap index means: each level has a row of 64-bit words, and bit a of the row tells whether address a is a member.
-use Rattle.std.specs.Prelude.{ℕ, ◌+◌, ◌*◌, ◌/◌, ◌%◌, ◌^◌, max, Bool, List, [], ◌∷◌, map, take, drop, filter, ◌==◌, bit_or, slice_index, slice_set}
+use Rattle.std.specs.Prelude.{ℕ, ◌+◌, ◌/◌, ◌%◌, ◌^◌, max, Bool, List, [], ◌∷◌, filter, ◌==◌, bit_or, slice_index, slice_set}
 use Rattle.std.specs.List.{range_with_len}
 
 -- bit k of a word
@@ -14,22 +14,14 @@ bit_of ws a = word_bit (slice_index ws (a / 64)) (a % 64)
 unfoldable pub members : ℕ → List ℕ → List ℕ
 members n ws = filter (bit_of ws) (range_with_len 0 n)
 
--- the row of level l, where a row has s words
-abbrev pub row : ℕ → List ℕ → ℕ → List ℕ
-row s ws l = take s (drop (l * s) ws)
-
--- the lists of the L levels
-unfoldable pub lists_of : ℕ → ℕ → List ℕ → List (List ℕ)
-lists_of L s ws = map (λ l. members (2 ^ L) (row s ws l)) (range_with_len 0 L)
-
 -- one more than the largest member; 0 where there is none
 abbrev pub past_last : List ℕ → ℕ
 past_last [] = 0
 past_last (x ∷ xs) = max (x + 1) (past_last xs)
 
--- the words with the bit of address a set in the row that begins at a place
-unfoldable pub with_bit : List ℕ → ℕ → ℕ → List ℕ
-with_bit ws from a = slice_set ws (from + a / 64) (bit_or (slice_index ws (from + a / 64)) (2 ^ (a % 64)))
+-- a row with the bit of address a set
+unfoldable pub with_bit : List ℕ → ℕ → List ℕ
+with_bit ws a = slice_set ws (a / 64) (bit_or (slice_index ws (a / 64)) (2 ^ (a % 64)))
 
 -- the places of the set bits of a word, from the lowest
 unfoldable pub places_of : ℕ → List ℕ

@@ -1,4 +1,3 @@
 pub mod Bitmap
+pub mod Lists
 pub mod Rows
-pub mod Kept
-pub mod Bits
