@@ -1,5 +1,6 @@
 -- What a loop over the places of a round needs, step by step.
-use Rattle.std.proofs.Common.{◌≡◌, ℕ, zero, suc, ◌+◌, ◌%◌, ◌^◌, ◌<◌, Bool, true, false, ltb, List, [], ◌∷◌, ◌++◌, length, get_or, take, drop, sym, refl, ap, ◌∙◌, arith}
+use Rattle.std.proofs.Common.{◌≡◌, ℕ, zero, suc, ◌+◌, ◌%◌, ◌^◌, ◌<◌, Bool, true, false, ltb, ◌&&◌, List, [], ◌∷◌, ◌++◌, length, get_or, take, drop, sym, refl, ap, ◌∙◌, arith}
+use Rattle.std.specs.List.{list_all}
 use Rattle.std.proofs.lemmas.List.{drop_more, take_more, map_more, flat_map_more}
 use Rattle.std.proofs.lemmas.Bool.{ltb-true, and_parts}
 use Rattle.store.specs.State.{Slot, State, slot_at}
@@ -7,6 +8,10 @@ use Rattle.store.specs.Requests.{entry_of, mark, entries, wrote, counted, traile
 use Rattle.store.specs.Rounds.{inside, marked, round, fetching, fetch_round, putting, put_round, keys_at, bytes_at}
 
 -- ---- every place lies inside
+
+pub inside_by_all : (n : ℕ) (ps : List ℕ) → inside n ps ≡ list_all (λ p. ltb p n) ps
+inside_by_all n [] = refl
+inside_by_all n (p ∷ ps) = ap (λ b. ltb p n && b) (inside_by_all n ps)
 
 pub inside_at : (n : ℕ) (ps : List ℕ) (i : ℕ) → inside n ps ≡ true → i < length ps → get_or ps i 0 < n
 inside_at n [] i h l = omega arith

@@ -1,6 +1,6 @@
 -- A round: a list of places fetched or put together. The first of them begins the round.
 use Rattle.std.specs.Prelude.{ℕ, ◌*◌, Bool, true, false, cond, ◌&&◌, List, [], ◌∷◌, map, length, take, drop, Ok, Err, Result, ◌==◌, nat_le, nat_lt, slice_index}
-use Rattle.std.specs.List.{flat_map, list_all}
+use Rattle.std.specs.List.{flat_map}
 use Rattle.shape.specs.declared.refusal.Refusal.{Refusal}
 use Rattle.shape.specs.declared.refusal.Refusal.TheVariants.{WrongRound, PlaceBeyondStore}
 use Rattle.store.specs.declared.entry.Entry.{Entry}
@@ -45,7 +45,8 @@ well_formed w m k b = nat_le 1 m && (nat_le m 13 && (k == m && b == m * w))
 
 -- every place lies below n
 abbrev pub inside : ℕ → List ℕ → Bool
-inside n ps = list_all (λ p. nat_lt p n) ps
+inside n [] = true
+inside n (p ∷ ps) = nat_lt p n && inside n ps
 
 -- the answer to a round of these places with k keys and b bytes, at a store of width w with n places
 abbrev pub verdict : ℕ → ℕ → List ℕ → ℕ → ℕ → Result (Unit {0}) Refusal

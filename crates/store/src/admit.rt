@@ -1,6 +1,7 @@
 // Inner: the checks that every kind of store makes before a round.
-ghost use Rattle.std.specs.Prelude.{◌≡◌, length};
-ghost use Rattle.store.specs.Rounds.{well_formed, inside, verdict};
+ghost use Rattle.std.specs.Prelude.{◌≡◌, length, nat_lt};
+ghost use Rattle.std.specs.List.{list_all};
+ghost use Rattle.store.specs.Rounds.{well_formed, verdict};
 
 use shape::refusal::Refusal;
 
@@ -11,11 +12,12 @@ fn is_well_formed(width: usize, places: usize, keys: usize, bytes: usize) -> boo
 }
 
 fn lies_inside(count: u32, places: &[u32]) -> bool
-    ensures { result ≡ inside count places.now }
+    ensures { result ≡ list_all (λ p. nat_lt p count) places.now }
 {
     places.iter().all(|&place| place < count)
 }
 
+#[tactic(auto, using(crate::proofs::Rounds::inside_by_all))]
 pub fn admit(
     width: usize,
     count: u32,
