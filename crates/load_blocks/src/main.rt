@@ -4,7 +4,7 @@
 
 use bitmap_index::BitmapIndex;
 use fault::{Fault, finish, parsed, words};
-use joined_store::{JoinedStore, Unjoined};
+use joined_store::JoinedStore;
 use memory_store::MemoryStore;
 use oram::answer::{Declined, Done};
 use oram::client::Client;
@@ -69,10 +69,7 @@ fn make_host(
 ) -> Result<JoinedStore<MemoryStore, MemoryStore>, Fault> {
     let first = make_part(heap, places / 2, width)?;
     let second = make_part(heap, places - places / 2, width)?;
-    JoinedStore::new(heap, first, second).map_err(|Unjoined { first, second }| {
-        drop((first, second));
-        Fault::NoMemory
-    })
+    JoinedStore::new(heap, first, second).map_err(|_| Fault::NoMemory)
 }
 
 // Opens a client over storage in two parts and loads the blocks.
