@@ -1,5 +1,5 @@
 // Making the parts of a client, and refusals as their numbers.
-use joined_store::{JoinedStore, Unjoined};
+use joined_store::JoinedStore;
 use memory_store::MemoryStore;
 use shape::refusal::Refusal;
 use std::alloc::Global;
@@ -16,10 +16,7 @@ pub(crate) fn joined(
     first: MemoryStore,
     second: MemoryStore,
 ) -> Result<JoinedStore<MemoryStore, MemoryStore>, Fail> {
-    JoinedStore::new(heap, first, second).map_err(|Unjoined { first, second }| {
-        drop((first, second));
-        Fail::new("no memory")
-    })
+    JoinedStore::new(heap, first, second).map_err(|_| Fail::new("no memory"))
 }
 
 // An answer, a refusal by its number.
