@@ -153,6 +153,7 @@ fn ask_all<I: Index>(heap: Global, index: &mut I, job: Job) -> Result<Checksum, 
     Ok((0..job.rounds).fold(filled, |checksum, _| ask_round(index, &round, checksum)))
 }
 
+// The kind is read from a word, so a match chooses the type.
 fn ask_kind(heap: Global, job: Job) -> Result<Checksum, MakeError> {
     match job.kind {
         Kind::Bitmap => ask_all(heap, &mut BitmapIndex::new(heap, job.levels)?, job),

@@ -149,6 +149,7 @@ impl<S: Store, I: Index, P: Supply> Client<S, I, P> {
         ensures stands { stands self.new.core (S.state self.new.store) (I.lists self.new.index) (P.choice self.new.supply) ≡ stands self.old.core (S.state self.old.store) (I.lists self.old.index) (P.choice self.old.supply) }
         ensures trace { trace.new ≡ (if is_ok result then sets trace.old 0 (entries (load_requests self.old.core.levels self.old.core.width (P.choice self.old.supply) bytes.now)) else trace.old) }
     {
+        // By a match: a closure for `map_err` would take the turn along.
         let dimensions = match self.admit_load(turn.number, bytes.len(), trace.len()) {
             Ok(dimensions) => dimensions,
             Err(refusal) => return Err(Declined { turn, refusal }),

@@ -63,6 +63,7 @@ impl TableSupply {
         ensures kept { MatchResult result (λ s. (s.parts.levels.number ≡ levels) × (s.parts.builds ≡ builds) × (s.slots ≡ slots)) (λ u. u.slots ≡ slots) }
         ensures verdict { MatchResult result (λ _. (levels_fit levels ≡ true) × RightTable levels builds slots.items) (λ u. Reason levels builds slots.items u.error) }
     {
+        // By a match: a closure for `map_err` would take the table along.
         match indices_of(heap, levels, builds, &slots) {
             Ok((parts, indices)) => Ok(TableSupply {
                 parts,

@@ -97,6 +97,7 @@ impl Parts {
         requires unnoted { Unnoted indices.old 0 (length slots.now) }
         ensures { MatchResult result (λ _. Permuted self.levels.number slots.now self.builds × Inverse self.levels.number slots.now self.builds indices.new) (λ e. (Permuted self.levels.number slots.now self.builds → ⊥) × (e ≡ Refusal.WrongTable)) }
     {
+        // A running sum: `slots_before` takes up to 13 steps for each build.
         let mut start = 0;
         for build in 0..self.builds {
             let size = self.levels.of_build(build).slots() as usize;
