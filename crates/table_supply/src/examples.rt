@@ -37,6 +37,7 @@ fn right_tables_are_taken(rt: HostRuntime) -> Result<(), Fail> {
     assert_eq!(rt; taken(rt.alloc(), 1, 1, &LOW[0..4])?, Ok(()));
     assert_eq!(rt; taken(rt.alloc(), 2, 4, &HIGH)?, Ok(()));
     assert_eq!(rt; taken(rt.alloc(), 2, 2, &HIGH[0..10])?, Ok(()));
+    assert_eq!(rt; taken(rt.alloc(), 1, 2, &[2, 0, 3, 1, 1, 0])?, Ok(()));
     Ok(())
 }
 
@@ -89,6 +90,13 @@ fn straight(heap: Global, builds: u32) -> Result<Vec<u32>, AllocError> {
         slots.extend(0..4 - build % 2 * 2)?;
     }
     Ok(slots)
+}
+
+#[test]
+fn a_build_too_many(rt: HostRuntime) -> Result<(), Fail> {
+    let slots = straight(rt.alloc(), 1_000_001)?;
+    assert_eq!(rt; taken(rt.alloc(), 1, 1_000_001, &slots)?, Err(8));
+    Ok(())
 }
 
 #[test]
