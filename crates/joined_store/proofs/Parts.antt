@@ -1,5 +1,5 @@
 -- A round of a joined store, as a round of each part.
-use Rattle.std.proofs.Common.{◌≡◌, ℕ, ◌+◌, ◌-◌, ◌*◌, ◌<◌, ◌≤◌, Bool, true, false, ltb, List, [], ◌∷◌, ◌++◌, length, take, drop, set, Ok, sym, refl, ap, subst, ◌∙◌, arith, zero-mul, suc-mul, mul-one, length-append}
+use Rattle.std.proofs.Common.{◌≡◌, ℕ, ◌+◌, ◌-◌, ◌*◌, ◌<◌, ◌≤◌, Bool, true, false, ltb, List, [], ◌∷◌, ◌++◌, length, take, drop, set, Ok, sym, refl, ap, subst, ◌∙◌, arith, zero-mul, suc-mul, add-mul, mul-one, length-append}
 use Rattle.std.specs.List.{flat_map}
 use Rattle.std.proofs.lemmas.List.Concat.{flat_map_single}
 use Rattle.std.proofs.lemmas.Grind.{common_steps}
@@ -7,7 +7,7 @@ use Rattle.std.proofs.lemmas.Bool.{and_parts, ltb-true, cond-true, cond-false, t
 use Rattle.std.proofs.lemmas.Bool.Decides.{nat_tests}
 use Rattle.std.proofs.lemmas.List.{take_at, drop_at, length-take-le, length-drop, length-set, nil_from_length, get_or_append_left, get_or-append_right, set-append_left, set-append_right}
 use Rattle.store.specs.State.{Slot, State, Wide, slot_at}
-use Rattle.store.specs.Requests.{Request, wrote, counted, trailed, ran}
+use Rattle.store.specs.Requests.{Request, wrote, counted, trailed, entries, ran}
 use Rattle.store.specs.Rounds.{inside, verdict, round, fetch_round, putting, put_round, keys_at, bytes_at}
 use Rattle.store.specs.Rule.{multiplied}
 use Rattle.store.proofs.Requests.{wrote_length}
@@ -121,13 +121,38 @@ both_fetched w n a b a' b' v t v' t' ps ea eb ev et =
 kept : (w : ℕ) (a b : State) (ra rb : List Request) → joins w a b ≡ true → joined_slots w (ran a ra) (ran b rb) ≡ wrote a.slots ra ++ wrote b.slots rb
 kept w a b ra rb j = rw (wrote_length a.slots ra, wrote_length b.slots rb) (cond-true (joins w a b) (wrote a.slots ra ++ wrote b.slots rb) [] j)
 
+-- a put of both parts, whether or not it would be accepted
+pub both_parts_put : (w : ℕ) (a b a' b' : State) (v t v' t' : ℕ) (ps ks bs : List ℕ) → joins w a b ≡ true → length ks ≡ length ps → length bs ≡ length ps * w →
+    a' ≡ ran a (put_of First (length a.slots) a ps ks bs) → b' ≡ ran b (put_of Second (length a.slots) b ps ks bs) →
+    v' ≡ counted (length ps) v → t' ≡ trailed multiplied t (round true ps) →
+    joined_state w a' b' v' t' ≡ ran (joined_state w a b v t) (put_round (joined_state w a b v t) ps ks bs)
+both_parts_put w a b a' b' v t v' t' ps ks bs j lk lb ea eb ev et =
+    let n = length a.slots in
+    let widths = joins_widths w a b j in
+    let slots = cond-true (joins w a b) (a.slots ++ b.slots) [] j in
+    let whole = wrote_both true true true w n a.slots b.slots ps ks bs refl lk lb in
+    let same : joined_slots w a' b' ≡ wrote (joined_slots w a b) (putting true w ps ks bs) =
+    rw (ea, eb, slots, kept w a b (put_of First n a ps ks bs) (put_of Second n b ps ks bs) j, whole, widths.0, widths.1) refl in
+    ap (λ slots. with_parts (joined_state w a b v t) slots v' t') same ∙ after_put (joined_state w a b v t) ps ks bs _ v' t' refl ev et
+
 pub both_put : {w : ℕ} {a b : State} {ps : List ℕ} (a' b' : State) (v t v' t' : ℕ) (ks bs : List ℕ) → Parted w a b ps (length ks) (length bs) →
     a' ≡ ran a (put_of First (length a.slots) a ps ks bs) → b' ≡ ran b (put_of Second (length a.slots) b ps ks bs) →
     v' ≡ counted (length ps) v → t' ≡ trailed multiplied t (round true ps) →
     joined_state w a' b' v' t' ≡ ran (joined_state w a b v t) (put_round (joined_state w a b v t) ps ks bs)
-both_put {w} {a} {b} {ps} a' b' v t v' t' ks bs h ea eb ev et =
-    let n = length a.slots in
-    let whole = wrote_both true true true w n a.slots b.slots ps ks bs refl h.keys h.bytes in
-    let same : joined_slots w a' b' ≡ wrote (joined_slots w a b) (putting true w ps ks bs) =
-    rw (ea, eb, h.slots, kept w a b (put_of First n a ps ks bs) (put_of Second n b ps ks bs) h.joins, whole, h.widths.0, h.widths.1) refl in
-    ap (λ slots. with_parts (joined_state w a b v t) slots v' t') same ∙ after_put (joined_state w a b v t) ps ks bs _ v' t' refl ev et
+both_put {w} {a} {b} {ps} a' b' v t v' t' ks bs h ea eb ev et = both_parts_put w a b a' b' v t v' t' ps ks bs h.joins h.keys h.bytes ea eb ev et
+
+-- the joined store after any requests whose slots the parts have together
+pub after_round : (w : ℕ) (a b a' b' : State) (v t v' t' : ℕ) (rs : List Request) →
+    a'.width ≡ a.width → b'.width ≡ b.width → length a'.slots ≡ length a.slots → length b'.slots ≡ length b.slots →
+    joins w a b ≡ true → a'.slots ++ b'.slots ≡ wrote (a.slots ++ b.slots) rs →
+    v' ≡ counted (length rs) v → t' ≡ trailed multiplied t (entries rs) →
+    joined_state w a' b' v' t' ≡ ran (joined_state w a b v t) rs
+after_round w a b a' b' v t v' t' rs wa wb la lb j slots served trail = rw (wa, wb, la, lb, j, slots, served, trail) refl
+
+-- each place lies in just one part
+pub places_sum : (n : ℕ) (ps : List ℕ) → length (places_in First n ps) + length (places_in Second n ps) ≡ length ps
+places_sum n [] = refl
+places_sum n (p ∷ ps) = grind (arith, places_sum n ps)
+
+pub span_both : (w n : ℕ) (ps : List ℕ) → length ps * w ≡ length (places_in First n ps) * w + length (places_in Second n ps) * w
+span_both w n ps = ap (λ k. k * w) (sym (places_sum n ps)) ∙ add-mul (length (places_in First n ps)) (length (places_in Second n ps)) w

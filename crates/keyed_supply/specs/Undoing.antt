@@ -123,6 +123,15 @@ module _ (net : Network) where
   unfolding halves
   joined_of_halves x = div-add-mod' x (2 ^ net.right_bits)
 
+  -- the halves at the end keep to their widths too
+  pub forth_kept : (x : ℕ) → x < numbers net → Kept (from_even net 8 (left_half net x) (right_half net x))
+  unfolding halves even rounds
+  forth_kept x h = subst Kept (sym (even_rest 8 0 refl refl (halves x))) (rounds_keep 8 (halves x) (halves_keep x h))
+
+  pub back_kept : (x : ℕ) → x < numbers net → Kept (back_odd net 8 (left_half net x) (right_half net x))
+  unfolding halves even
+  back_kept x h = subst Kept (sym (odd_back_rest 8 refl (halves x))) (rounds_back_keep 8 (halves x) (halves_keep x h))
+
   forth_is : (x : ℕ) → forth net x ≡ joined net (rounds 8 (halves x))
   unfolding forth halves even rounds
   forth_is x = ap (joined net) (even_rest 8 0 refl refl (halves x))

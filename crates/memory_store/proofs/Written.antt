@@ -1,7 +1,7 @@
 -- A slot that is written is the slot that is read, and every other stays.
-use Rattle.std.proofs.Common.{◌≡◌, ℕ, ◌+◌, ◌*◌, ◌^◌, ◌<◌, ◌≤◌, Bool, true, false, ◌⊎◌, List, [], ◌∷◌, ◌++◌, length, get_or, take, drop, set, nat_lt, refl, inl, inr, ap, ◌∙◌, sym, suc-mul, mod-eq_of_lt, arith, length-append, length-take, length-drop, length-set, drop-drop, get_or-drop, get_or-take, drop_at, take_at, get_or-set_same, get_or-set_other}
+use Rattle.std.proofs.Common.{◌≡◌, ℕ, ◌+◌, ◌*◌, ◌/◌, ◌^◌, ◌<◌, ◌≤◌, Bool, true, false, ◌⊎◌, List, [], ◌∷◌, ◌++◌, length, get_or, take, drop, set, nat_lt, refl, inl, inr, ap, ◌∙◌, sym, suc-mul, div-mul-le_self, mod-eq_of_lt, arith, length-append, length-take, length-drop, length-set, drop-drop, get_or-drop, get_or-take, drop_at, take_at, get_or-set_same, get_or-set_other}
 use Rattle.std.proofs.lemmas.List.{same_lists, length-take-le, drop-take}
-use Rattle.std.proofs.lemmas.Nat.{mod-pow-add}
+use Rattle.std.proofs.lemmas.Nat.{mod-pow-add, mul-le}
 use Rattle.std.proofs.lemmas.Slice.{take-put_mid_below, drop-put_mid}
 use Rattle.std.proofs.lemmas.Bool.{cases_order, ltb-true, and_parts}
 use borrow.Rule.Slice.PartMut.{put_mid}
@@ -9,8 +9,14 @@ use Rattle.shape.proofs.Products.{part_fits}
 use Rattle.store.specs.State.{Slot}
 use Rattle.store.specs.Requests.{wrote}
 use Rattle.store.specs.Rounds.{inside, putting}
-use Rattle.memory_store.specs.Memory.{span, key_of, key_bytes, slot_from, decoded, overwritten, stored}
+use Rattle.memory_store.specs.Memory.{span, key_of, key_bytes, slot_from, decoded, overwritten, stored, whole_slots}
 use Rattle.memory_store.specs.Slots.{decoded_length, decoded_at}
+
+-- as many whole slots as fit do fit
+pub whole_slots_fit : (w len : ℕ) → whole_slots w len * span w ≤ len
+whole_slots_fit w len =
+    let most = div-mul-le_self len (span w) in
+    omega (arith, mul-le (whole_slots w len) (span w) (len / span w) (span w) (omega arith) (omega arith))
 
 -- a write over part of a slice, as the check shows it
 overwritten_is : (xs ys : List ℕ) (a : ℕ) → overwritten xs a ys ≡ put_mid a (length ys) xs ys
