@@ -1,9 +1,9 @@
 use Rattle.std.proofs.Common.{length, sym, ap, ◌∙◌, arith}
 use Rattle.std.proofs.lemmas.List.{length_push}
 use Rattle.bitmap_index.specs.Bitmap.{past_last}
-use Rattle.bitmap_index.specs.Lists.{list_of}
-use Rattle.bitmap_index.proofs.OneRow.{row_takes_last, members_pushed}
-use Rattle.bitmap_index.proofs.row.Row.append.Goals as goal
+use Rattle.bitmap_index.specs.Members.{list_of}
+use Rattle.bitmap_index.proofs.OneRow.{takes_last, members_pushed}
+use Rattle.bitmap_index.proofs.row.BitmapRowRow.append.Goals as goal
 
 pub invariant_of-self-clause-counted : goal.invariant_of-self-clause-counted
 invariant_of-self-clause-counted c =
@@ -15,4 +15,4 @@ pub invariant_of-self-clause-ended : goal.invariant_of-self-clause-ended
 invariant_of-self-clause-ended c =
     let s = c.args.self.now in
     let t = sym c.takes.ensures ∙ c.if-not-takes.false in
-    sym (ap past_last (members_pushed s c.args.address _ _ t c.deref_mut.ensures.value c.set_bit.ensures) ∙ row_takes_last s c.args.address t)
+    sym (ap past_last (members_pushed s c.args.address _ _ t c.deref_mut.ensures.value c.set_bit.ensures) ∙ takes_last s c.args.address t)
