@@ -1,7 +1,7 @@
 -- One row: what a change leaves of its members, and which address it takes.
 use Rattle.std.proofs.Common.{◌≡◌, ℕ, zero, suc, ◌+◌, ◌*◌, ◌/◌, ◌%◌, ◌^◌, ◌<◌, ◌≤◌, true, ◌&&◌, ltb, leb, List, [], ◌∷◌, ◌++◌, length, get_or, replicate, sym, refl, ap, ◌∙◌, arith}
 use Rattle.std.specs.Vec.{with_items}
-use Rattle.std.proofs.lemmas.List.{length-set, with_items_is}
+use Rattle.std.proofs.lemmas.List.{length-set, length_push, with_items_is}
 use Rattle.std.proofs.lemmas.Option.{gets}
 use Rattle.index.specs.Lists.{above}
 use Rattle.index.specs.RowLists.{blocks_small}
@@ -79,5 +79,11 @@ members_pushed r a ws new t old e =
     ap (members (2 ^ r.levels.number)) (with_items_is r.words new n ∙ bit)
     ∙ members_with_bit (2 ^ r.levels.number) r.words.items a (omega (arith, r.wide, r.words.ok.0)) h.address h.over
 
+pub counted_pushed : (r : BitmapRow) (a : ℕ) (ws new : List ℕ) → takes r a ≡ true → ws ≡ r.words.items → new ≡ with_bit ws a → r.size + 1 ≡ length (members (2 ^ r.levels.number) (with_items r.words new).items)
+counted_pushed r a ws new t old e = omega (arith, r.counted, ap length (members_pushed r a ws new t old e), length_push (list_of r) a)
+
+pub ended_pushed : (r : BitmapRow) (a : ℕ) (ws new : List ℕ) → takes r a ≡ true → ws ≡ r.words.items → new ≡ with_bit ws a → a + 1 ≡ past_last (members (2 ^ r.levels.number) (with_items r.words new).items)
+ended_pushed r a ws new t old e = sym (ap past_last (members_pushed r a ws new t old e) ∙ takes_last r a t)
+
 -- what the methods of a row rest on
-pub ruleset row_facts = (members_grow, members_more, members_have, members_lack, members_smaller, blocks_small, members_zeros, takes_is, takes_address, takes_room, takes_last, members_pushed, gets)
+pub ruleset row_facts = (members_grow, members_more, members_have, members_lack, members_smaller, blocks_small, members_zeros, takes_is, takes_address, takes_room, members_pushed, counted_pushed, ended_pushed, gets)
