@@ -22,19 +22,18 @@ blocks_small L h = pow_mono h
 
 -- ---- rows with a list, a bound and a room each
 
-pub list_is : {R : Type 0} (list : R → List ℕ) (rows : List R) (l : ℕ) (r : R) → l < length rows → list_at (map list rows) l ≡ list (get_or rows l r)
-list_is list rows l r h = get_or-map list rows l r [] h
+module _ {R : Type 0} where
+  pub list_is : (list : R → List ℕ) (rows : List R) (l : ℕ) (r : R) → l < length rows → list_at (map list rows) l ≡ list (get_or rows l r)
+  list_is list rows l r h = get_or-map list rows l r [] h
 
-pub rows_number : {R : Type 0} (room : R → ℕ) (L : ℕ) (rows : List R) → map room rows ≡ powers L → length rows ≡ L
-rows_number room L rows rooms = sym (length-map rows room) ∙ ap length rooms ∙ length-map-range_with_len (λ l. 2 ^ l) 0 L
+  pub rows_number : (room : R → ℕ) (L : ℕ) (rows : List R) → map room rows ≡ powers L → length rows ≡ L
+  rows_number room L rows rooms = sym (length-map rows room) ∙ ap length rooms ∙ length-map-range_with_len (λ l. 2 ^ l) 0 L
 
-pub room_is : {R : Type 0} (room : R → ℕ) (L : ℕ) (rows : List R) (l : ℕ) (r : R) → map room rows ≡ powers L → l < length rows → room (get_or rows l r) ≡ 2 ^ l
-room_is room L rows l r rooms h =
-    sym (get_or-map room rows l r 0 h) ∙ ap (λ (xs : List ℕ). get_or xs l 0) rooms
-    ∙ get_or-map-range_with_len (λ l. 2 ^ l) 0 L l l 0 (omega (arith, rows_number room L rows rooms)) (omega arith)
+  pub room_is : (room : R → ℕ) (L : ℕ) (rows : List R) (l : ℕ) (r : R) → map room rows ≡ powers L → l < length rows → room (get_or rows l r) ≡ 2 ^ l
+  room_is room L rows l r rooms h = grind (arith, rooms, rows_number room L rows rooms, get_or-map room rows l r 0 h, get_or-map-range_with_len (λ l. 2 ^ l) 0 L l l 0)
 
-pub bound_is : {R : Type 0} (bound : R → ℕ) (L : ℕ) (rows : List R) (l : ℕ) (r : R) → map bound rows ≡ replicate L (2 ^ L) → l < L → l < length rows → bound (get_or rows l r) ≡ 2 ^ L
-bound_is bound L rows l r bounds h i = grind (arith, bounds, get_or-map bound rows l r 0 i, get_or-replicate L l (2 ^ L) 0 h)
+  pub bound_is : (bound : R → ℕ) (L : ℕ) (rows : List R) (l : ℕ) (r : R) → map bound rows ≡ replicate L (2 ^ L) → l < L → l < length rows → bound (get_or rows l r) ≡ 2 ^ L
+  bound_is bound L rows l r bounds h i = grind (arith, bounds, get_or-map bound rows l r 0 i, get_or-replicate L l (2 ^ L) 0 h)
 
 pub rows_lawful : {R : Type 0} (list : R → List ℕ) (bound room : R → ℕ)
     → ((r : R) → Rising (list r)) → ((r : R) → All (λ a. a < bound r) (list r)) → ((r : R) → length (list r) ≤ room r)
