@@ -12,7 +12,7 @@ use Rattle.bitmap_index.specs.Bitmap.{word_bit, bit_of, members, places_of}
 use Rattle.index.specs.Lists.{has, smaller}
 use Rattle.std.proofs.lemmas.Grind.{common_steps}
 use Rattle.std.proofs.lemmas.Bool.Decides.{nat_tests}
-use Rattle.bitmap_index.specs.Rows.{kept_below}
+use Rattle.bitmap_index.specs.Members.{kept_below}
 use Rattle.bitmap_index.proofs.Kept.{kept_split, kept_same, kept_shift, kept_has, smaller_kept}
 use Rattle.bitmap_index.proofs.Bits.{length_bits, length_places}
 

@@ -1,4 +1,3 @@
-pub mod AllRows
 pub mod Bits
 pub mod Counts
 pub mod Kept

@@ -1,19 +1,18 @@
 -- One row: what a change leaves of its members, and which address it takes.
-use Rattle.std.proofs.Common.{◌≡◌, ℕ, zero, suc, ◌+◌, ◌*◌, ◌/◌, ◌%◌, ◌^◌, ◌<◌, ◌≤◌, true, ◌&&◌, ltb, leb, List, [], ◌∷◌, ◌++◌, length, get_or, replicate, sym, refl, ap, ◌∙◌, arith, pow_mono}
+use Rattle.std.proofs.Common.{◌≡◌, ℕ, zero, suc, ◌+◌, ◌*◌, ◌/◌, ◌%◌, ◌^◌, ◌<◌, ◌≤◌, true, ◌&&◌, ltb, leb, List, [], ◌∷◌, ◌++◌, length, get_or, replicate, sym, refl, ap, ◌∙◌, arith}
 use Rattle.std.specs.Vec.{with_items}
-use Rattle.std.proofs.lemmas.List.{length-set, with_items_is}
+use Rattle.std.proofs.lemmas.List.{length-set, length_push, with_items_is}
+use Rattle.std.proofs.lemmas.Option.{gets}
 use Rattle.index.specs.Lists.{above}
+use Rattle.index.specs.RowLists.{blocks_small}
 use Rattle.std.proofs.lemmas.Grind.{common_steps}
 use Rattle.std.proofs.lemmas.Bool.Decides.{nat_tests}
 use Rattle.bitmap_index.specs.Bitmap.{word_bit, bit_of, members, past_last, with_bit}
-use Rattle.bitmap_index.specs.Lists.{list_of, row_takes}
-use Rattle.bitmap_index.specs.declared.row.Row.{Row}
+use Rattle.bitmap_index.specs.Members.{list_of, takes}
+use Rattle.bitmap_index.specs.declared.row.BitmapRow.{BitmapRow}
 use Rattle.bitmap_index.proofs.Kept.{kept_none, kept_push, above_past_last, past_last_push}
 use Rattle.bitmap_index.proofs.Counts.{members_grow, members_more, members_have, members_lack, members_smaller}
 use Rattle.bitmap_index.proofs.Bits.{or_sets, or_keeps, zero_clear}
-
-pub blocks_small : (L : ℕ) → L ≤ 12 → 2 ^ L ≤ 4096
-blocks_small L h = pow_mono h
 
 -- ---- a bit is set
 
@@ -51,28 +50,28 @@ members_zeros n k ws e =
 -- ---- whether a row takes an address
 
 -- told by what it keeps beside the words
-pub row_takes_is : (r : Row) (a : ℕ) → row_takes r a ≡ (ltb a (2 ^ r.levels.number) && (leb r.next a && ltb r.size (2 ^ r.level.number)))
-row_takes_is r a = rw (above_past_last (list_of r) a, ← r.ended, ← r.counted) refl
+pub takes_is : (r : BitmapRow) (a : ℕ) → takes r a ≡ (ltb a (2 ^ r.levels.number) && (leb r.next a && ltb r.size (2 ^ r.level.number)))
+takes_is r a = rw (above_past_last (list_of r) a, ← r.ended, ← r.counted) refl
 
-record Taken (r : Row) (a : ℕ) : Type 0 where
+record Taken (r : BitmapRow) (a : ℕ) : Type 0 where
   address : a < 2 ^ r.levels.number
   over : above (list_of r) a ≡ true
   room : length (list_of r) < 2 ^ r.level.number
 
-taken : (r : Row) (a : ℕ) → row_takes r a ≡ true → Taken r a
+taken : (r : BitmapRow) (a : ℕ) → takes r a ≡ true → Taken r a
 taken r a t = record { address = grind (arith, nat_tests, t); over = grind (arith, nat_tests, t); room = grind (arith, nat_tests, t) }
 
-pub row_takes_address : (r : Row) (a : ℕ) → row_takes r a ≡ true → a < 2 ^ r.levels.number
-row_takes_address r a t = (taken r a t).address
+pub takes_address : (r : BitmapRow) (a : ℕ) → takes r a ≡ true → a < 2 ^ r.levels.number
+takes_address r a t = (taken r a t).address
 
-pub row_takes_room : (r : Row) (a : ℕ) → row_takes r a ≡ true → length (list_of r) < 2 ^ r.level.number
-row_takes_room r a t = (taken r a t).room
+pub takes_room : (r : BitmapRow) (a : ℕ) → takes r a ≡ true → length (list_of r) < 2 ^ r.level.number
+takes_room r a t = (taken r a t).room
 
-pub row_takes_last : (r : Row) (a : ℕ) → row_takes r a ≡ true → past_last (list_of r ++ a ∷ []) ≡ a + 1
-row_takes_last r a t = grind (arith, nat_tests, above_past_last (list_of r) a, past_last_push (list_of r) a, (taken r a t).over)
+pub takes_last : (r : BitmapRow) (a : ℕ) → takes r a ≡ true → past_last (list_of r ++ a ∷ []) ≡ a + 1
+takes_last r a t = grind (arith, nat_tests, above_past_last (list_of r) a, past_last_push (list_of r) a, (taken r a t).over)
 
 -- the members once the bit is set
-pub members_pushed : (r : Row) (a : ℕ) (ws new : List ℕ) → row_takes r a ≡ true → ws ≡ r.words.items → new ≡ with_bit ws a → members (2 ^ r.levels.number) (with_items r.words new).items ≡ list_of r ++ a ∷ []
+pub members_pushed : (r : BitmapRow) (a : ℕ) (ws new : List ℕ) → takes r a ≡ true → ws ≡ r.words.items → new ≡ with_bit ws a → members (2 ^ r.levels.number) (with_items r.words new).items ≡ list_of r ++ a ∷ []
 members_pushed r a ws new t old e =
     let h = taken r a t in
     let bit : new ≡ with_bit r.words.items a = e ∙ ap (λ (ys : List ℕ). with_bit ys a) old in
@@ -80,5 +79,11 @@ members_pushed r a ws new t old e =
     ap (members (2 ^ r.levels.number)) (with_items_is r.words new n ∙ bit)
     ∙ members_with_bit (2 ^ r.levels.number) r.words.items a (omega (arith, r.wide, r.words.ok.0)) h.address h.over
 
+pub counted_pushed : (r : BitmapRow) (a : ℕ) (ws new : List ℕ) → takes r a ≡ true → ws ≡ r.words.items → new ≡ with_bit ws a → r.size + 1 ≡ length (members (2 ^ r.levels.number) (with_items r.words new).items)
+counted_pushed r a ws new t old e = omega (arith, r.counted, ap length (members_pushed r a ws new t old e), length_push (list_of r) a)
+
+pub ended_pushed : (r : BitmapRow) (a : ℕ) (ws new : List ℕ) → takes r a ≡ true → ws ≡ r.words.items → new ≡ with_bit ws a → a + 1 ≡ past_last (members (2 ^ r.levels.number) (with_items r.words new).items)
+ended_pushed r a ws new t old e = sym (ap past_last (members_pushed r a ws new t old e) ∙ takes_last r a t)
+
 -- what the methods of a row rest on
-pub ruleset row_facts = (members_grow, members_more, members_have, members_lack, members_smaller, blocks_small, members_zeros, row_takes_is, row_takes_address, row_takes_room, row_takes_last, members_pushed)
+pub ruleset row_facts = (members_grow, members_more, members_have, members_lack, members_smaller, blocks_small, members_zeros, takes_is, takes_address, takes_room, members_pushed, counted_pushed, ended_pushed, gets)

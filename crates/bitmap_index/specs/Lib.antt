@@ -1,3 +1,2 @@
 pub mod Bitmap
-pub mod Lists
-pub mod Rows
+pub mod Members

@@ -1,7 +1,7 @@
 -- What a gap index means: a rising list is kept as its gaps. The first gap is the first address plus 1, each further gap is the
 -- difference of two neighbours; so the members are the running sums of the gaps, minus 1.
-use Rattle.std.specs.Prelude.{◌≡◌, ℕ, ◌+◌, ◌-◌, ◌<◌, cond, List, [], ◌∷◌, length, Some, None, Option, slice_index}
-use Rattle.index.specs.Lists.{Rising, has, smaller}
+use Rattle.std.specs.Prelude.{◌≡◌, ℕ, ◌+◌, ◌-◌, ◌<◌, List, [], ◌∷◌, length, slice_index}
+use Rattle.index.specs.Lists.{Rising}
 
 -- the gaps of a list whose members begin at an address
 unfoldable pub gaps_from : ℕ → List ℕ → List ℕ
@@ -31,7 +31,3 @@ GapsGiveTheList = (xs : List ℕ) → Rising xs → listed (gaps_of xs) ≡ xs
 
 abbrev pub ListGivesTheGaps : Type 0
 ListGivesTheGaps = (gs : List ℕ) → Positive gs → gaps_of (listed gs) ≡ gs
-
--- the rank of an address in one list
-abbrev pub rank_in : List ℕ → ℕ → Option ℕ
-rank_in xs a = cond (has xs a) (Some (smaller xs a)) None

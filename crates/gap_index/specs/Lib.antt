@@ -1,4 +1,3 @@
 pub mod Gaps
-pub mod Rows
+pub mod Members
 pub mod Listed
-pub mod Levels

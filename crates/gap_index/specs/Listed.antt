@@ -3,11 +3,12 @@ use Rattle.std.proofs.Common.{◌≡◌, ℕ, zero, suc, ◌+◌, ◌-◌, ◌<�
 use Rattle.std.specs.List.{slice_get}
 use Rattle.std.specs.Bool.{then_some}
 use Rattle.std.proofs.lemmas.Option.{slice_get_past}
-use Rattle.std.proofs.lemmas.List.{take_all}
+use Rattle.std.proofs.lemmas.List.{take_all, get_or_past}
 use Rattle.std.proofs.lemmas.List.Sums.{sum_by-cons, sum_by_more, sum_by-take-le}
 use Rattle.std.proofs.lemmas.Bool.Decides.{nat_tests}
 use Rattle.index.specs.Lists.{Rising, has, smaller, above}
-use Rattle.gap_index.specs.Gaps.{Positive, gaps_from, listed_from, listed, GapsGiveTheList, ListGivesTheGaps, rank_in}
+use Rattle.index.specs.RowLists.{rank_in, blocks_small}
+use Rattle.gap_index.specs.Gaps.{Positive, gaps_from, gaps_of, listed_from, listed, GapsGiveTheList, ListGivesTheGaps}
 
 -- ---- the first gap and the others
 
@@ -164,14 +165,24 @@ passed f (g ∷ gs) a (suc i) h n low high =
       here = grind (arith, nat_tests, pos, rest.here);
     }
 
-pub rank_passed : (gs : List ℕ) (a i : ℕ) → Positive gs → i < length gs → sum (take i gs) ≤ a → a < sum (take (i + 1) gs) → then_some (eqb (a + 1) (sum (take (i + 1) gs))) i ≡ rank_in (listed gs) a
-rank_passed gs a i h n low high = grind (arith, passed 0 gs a i h n (omega arith) (omega arith))
+pub rank_passed : (gs : List ℕ) (a i next gap : ℕ) → Positive gs → i < length gs → next ≡ sum (take i gs) → gap ≡ get_or gs i 0 → next ≤ a → a < next + gap → then_some (eqb (a + 1) (next + gap)) i ≡ rank_in (listed gs) a
+rank_passed gs a i next gap h n front own low high = grind (arith, front, own, sum_more gs i n, passed 0 gs a i h n (omega (arith, front)) (omega (arith, front, own, sum_more gs i n)))
 
 pub rank_after : (gs : List ℕ) (a : ℕ) → Positive gs → sum gs ≤ a → None ≡ rank_in (listed gs) a
 rank_after gs a h l = grind (arith, has_late 0 gs a h)
 
+-- ---- none
+
+pub listed_none : (gs : List ℕ) → gs ≡ [] → listed gs ≡ []
+unfolding listed_from
+listed_none gs e = ap listed e
+
+pub gaps_none : (xs : List ℕ) → xs ≡ [] → gaps_of xs ≡ []
+unfolding gaps_from
+gaps_none xs e = ap gaps_of e
+
 -- ---- what the methods are proved with
 
-pub ruleset each_undoes = (gaps_give_the_list, list_gives_the_gaps)
+pub ruleset gap_facts = (gaps_give_the_list, list_gives_the_gaps, gaps_none, get_or_past)
 
-pub ruleset row_steps = (take_all, length_listed, length_le_sum, sum_more, sum_front, member_is, member_past, listed_push, above_is, rank_after)
+pub ruleset row_steps = (take_all, length_listed, length_le_sum, sum_more, sum_front, member_is, member_past, listed_push, above_is, rank_passed, rank_after, listed_none, blocks_small)

@@ -1,19 +1,23 @@
-// Inner: the gaps of one level's list, in memory that is reserved once.
-ghost use Rattle.std.specs.Prelude.{◌≡◌, ◌≤◌, sum};
+// The gaps of one level's list, in memory that is reserved once.
+ghost use Rattle.std.specs.Prelude.{◌≡◌, ◌^◌, ◌≤◌, sum};
 ghost use Rattle.gap_index.specs.Gaps.{Positive};
 
+use index::rows::Row;
+use shape::level::Level;
 use shape::refusal::Refusal;
 use std::alloc::{AllocError, Global};
 
 #[derive(Drop)]
-pub(crate) struct Row {
+pub struct GapRow {
+    // L: an address is below 2^L
+    levels: Level,
     // its capacity is the row's room
     gaps: Vec<u16>,
     // one more than the last member, 0 where there is none
     next: u32,
     ghost positive: { Positive gaps.items },
     ghost ended: { next ≡ sum gaps.items },
-    ghost small: { next ≤ 4096 },
+    ghost inside: { next ≤ 2 ^ levels.number },
 }
 
 fn total(gaps: &[u16]) -> u32
@@ -23,49 +27,52 @@ fn total(gaps: &[u16]) -> u32
     gaps.iter().sum::<u16>() as u32
 }
 
-#[tactic(auto, using(crate::specs::Listed::row_steps))]
-impl Row {
-    ghost use Rattle.std.specs.Prelude.{◌+◌, ◌^◌, ◌<◌, ◌∷◌, ◌++◌, ◌&&◌, [], length, max, nat_lt, Ok, Err, IfOk, is_ok, if◌then◌else◌, vec_len, vec_capacity};
-    ghost use Rattle.std.specs.List.{slice_get};
-    ghost use Rattle.index.specs.Lists.{above};
-    ghost use Rattle.gap_index.specs.Gaps.{listed, rank_in};
-
-    pub(crate) fn new(heap: Global, level: u32) -> Result<Row, AllocError>
-        requires { level ≤ 12 }
-        ensures empty { IfOk result (λ r. r.gaps.items ≡ []) }
-        ensures room { IfOk result (λ r. vec_capacity r.gaps ≡ 2 ^ level) }
-        ensures next { IfOk result (λ r. r.next ≡ 0) }
-    {
-        Ok(Row {
-            gaps: Vec::with_capacity(heap, 1 << level)?,
-            next: 0,
-        })
-    }
-
+impl GapRow {
     pub(crate) fn gaps(&self) -> &[u16]
         ensures { result.now ≡ self.now.gaps.items }
     {
         &self.gaps
     }
+}
 
-    pub(crate) fn size(&self) -> u32
-        ensures { result ≡ length (listed self.now.gaps.items) }
-    {
+#[tactic(auto, using(crate::specs::Listed::row_steps))]
+impl Row for GapRow {
+    ghost use Rattle.std.specs.Prelude.{vec_capacity};
+    ghost use Rattle.gap_index.specs.Gaps.{listed};
+    ghost use Rattle.gap_index.specs.Listed.{listed_rises};
+    ghost use Rattle.gap_index.specs.Members.{list_below, list_fits};
+
+    ghost list = { λ r. listed r.gaps.items };
+
+    ghost bound = { λ r. 2 ^ r.levels.number };
+
+    ghost room = { λ r. vec_capacity r.gaps };
+
+    ghost rises = { λ r. listed_rises r.gaps.items r.positive };
+
+    ghost addresses = { list_below };
+
+    ghost fits = { list_fits };
+
+    fn new(heap: Global, levels: Level, level: Level) -> Result<GapRow, AllocError> {
+        Ok(GapRow {
+            levels,
+            gaps: Vec::with_capacity(heap, level.blocks() as usize)?,
+            next: 0,
+        })
+    }
+
+    fn size(&self) -> u32 {
         self.gaps.len() as u32
     }
 
-    // The member at a position: the sum of the gaps up to it, minus 1.
-    pub(crate) fn member(&self, position: u32) -> Option<u32>
-        ensures { result ≡ slice_get (listed self.now.gaps.items) position }
-    {
+    // The sum of the gaps up to the position, minus 1.
+    fn member(&self, position: u32) -> Option<u32> {
         let gaps = self.gaps.get(..position as usize + 1)?;
         Some(total(gaps) - 1)
     }
 
-    // The rank of an address; absent where it is no member.
-    pub(crate) fn rank(&self, address: u32) -> Option<u32>
-        ensures { result ≡ rank_in (listed self.now.gaps.items) address }
-    {
+    fn rank(&self, address: u32) -> Option<u32> {
         // one more than the last member passed
         let mut next = 0;
         for (rank, gap) in self.gaps.iter().enumerate() {
@@ -77,15 +84,9 @@ impl Row {
         None
     }
 
-    // Refused where the row is full or the address does not lie above its members.
-    pub(crate) fn append(&mut self, address: u32) -> Result<(), Refusal>
-        requires { address < 4096 }
-        ensures answer { result ≡ (if above (listed self.old.gaps.items) address && nat_lt (length (listed self.old.gaps.items)) (vec_capacity self.old.gaps) then Ok tt else Err Refusal.WrongListChange) }
-        ensures members { listed self.new.gaps.items ≡ (if is_ok result then listed self.old.gaps.items ++ address ∷ [] else listed self.old.gaps.items) }
-        ensures room { vec_capacity self.new.gaps ≡ vec_capacity self.old.gaps }
-        ensures next { self.new.next ≤ max self.old.next (address + 1) }
-    {
-        if address < self.next || self.gaps.len() == self.gaps.capacity() {
+    fn append(&mut self, address: u32) -> Result<(), Refusal> {
+        let full = self.gaps.len() == self.gaps.capacity();
+        if address >= self.levels.blocks() || address < self.next || full {
             return Err(Refusal::WrongListChange);
         }
         self.gaps.push_reserved((address + 1 - self.next) as u16);
@@ -93,11 +94,7 @@ impl Row {
         Ok(())
     }
 
-    pub(crate) fn clear(&mut self)
-        ensures empty { self.new.gaps.items ≡ [] }
-        ensures room { vec_capacity self.new.gaps ≡ vec_capacity self.old.gaps }
-        ensures next { self.new.next ≡ 0 }
-    {
+    fn clear(&mut self) {
         self.gaps.clear();
         self.next = 0;
     }

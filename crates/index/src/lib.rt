@@ -4,6 +4,8 @@
 ghost use Rattle.std.specs.Prelude.{◌≡◌, ℕ, List, length, is_ok, if◌then◌else◌};
 ghost use Rattle.index.specs.Lists.{Lawful, size_answer, member_answer, rank_answer, append_answer, appended, clear_answer, cleared};
 
+pub mod rows;
+
 use shape::refusal::Refusal;
 
 pub trait Index {

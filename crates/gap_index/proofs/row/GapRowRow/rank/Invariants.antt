@@ -1,5 +1,5 @@
 use Rattle.std.proofs.Common.{◌≡◌, ◌≤◌, take, sum}
-use Rattle.gap_index.proofs.row.Row.rank.Given as goal
+use Rattle.gap_index.proofs.row.GapRowRow.rank.Given as goal
 
 -- the members passed are at most the address
 abbrev pub invariant-loop-rank : goal.invariant-loop-rank
