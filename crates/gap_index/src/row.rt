@@ -9,10 +9,10 @@ use std::alloc::{AllocError, Global};
 
 #[derive(Drop)]
 pub struct GapRow {
-    // L: an address is below 2^L
-    levels: Level,
     // its capacity is the row's room
     gaps: Vec<u16>,
+    // L: an address is below 2^L
+    levels: Level,
     // one more than the last member, 0 where there is none
     next: u32,
     ghost positive: { Positive gaps.items },
