@@ -1,8 +1,8 @@
 -- The bytes along every run: what is stored is always current, so that a read gives the latest write.
-use Rattle.std.proofs.Common.{◌≡◌, ℕ, suc, ◌+◌, ◌*◌, ◌<◌, ◌≤◌, true, false, cond, ◌&&◌, eqb, ◌⊎◌, List, [], ◌∷◌, ◌++◌, length, Some, None, Option, sym, refl, ap, ◌∙◌, subst, inl, inr, arith}
+use Rattle.std.proofs.Common.{◌≡◌, ℕ, suc, ◌+◌, ◌*◌, ◌<◌, ◌≤◌, true, false, cond, ◌&&◌, eqb, ◌⊎◌, List, [], ◌∷◌, ◌++◌, length, replicate, Some, None, Option, sym, refl, ap, ap₂, ◌∙◌, subst, inl, inr, add-zero, arith}
 use mathlib.Core.Path.{fun_ext}
 use Rattle.std.proofs.lemmas.List.FromFn.{length-map-range_with_len}
-use Rattle.std.proofs.lemmas.List.{append-nil, append_assoc, get_or_past}
+use Rattle.std.proofs.lemmas.List.{append-nil, append_assoc, get_or_past, get_or-set_same, length-replicate}
 use Rattle.std.proofs.lemmas.Bool.{cases_Bool, cases_lt, cond-true, cond-false, eq-eqb, ne_eqb, eqb-true, eqb-false, false≢true, and_left, and_right, and_from}
 use Rattle.shape.specs.Numbers.{level_slots, level_start, level_of_build, places_needed}
 use Rattle.shape.specs.declared.refusal.Refusal.{Refusal}
@@ -13,17 +13,17 @@ use Rattle.store.specs.declared.entry.Entry.{Entry}
 use Rattle.permutations.specs.Choices.{slot_of}
 use Rattle.permutations.specs.Scripts.{Act, mark}
 use Rattle.rules.specs.World.{Level, Client, World, vacant}
-use Rattle.rules.specs.Calls.{Call, load, access, rebuild, accepted, Outcome}
+use Rattle.rules.specs.Calls.{Call, load, access, rebuild, Answer, accepted, Outcome}
 use Rattle.rules.specs.Checks.{verdict, rebuild_level}
 use Rattle.rules.specs.Opening.{Parts, opening_answer, opened, opening}
 use Rattle.rules.specs.Slots.{block_bytes}
-use Rattle.rules.specs.Loading.{load_requests, loaded_client, loading}
+use Rattle.rules.specs.Loading.{load_requests, loaded_level, loaded_client, loading}
 use Rattle.rules.specs.Accessing.{asks, found_from, found_bytes, access_requests, accessing}
-use Rattle.rules.specs.Rebuilding.{rebuilt_members, gathered, rebuild_requests, rebuilding}
+use Rattle.rules.specs.Rebuilding.{rebuilt_members, rebuilt_client, gathered, rebuild_requests, rebuilding}
 use Rattle.rules.specs.Runs.{accept, performed, after}
 use Rattle.laws.specs.Runs.{Choices}
 use Rattle.laws.specs.LatestWrite.{set_by, latest, ReadsGiveTheLatestWrite}
-use Rattle.laws.specs.Keeping.{level_at, said, Holds, Kept, RebuildsKeepEveryBlock, builds, OccupiedLevelsHold}
+use Rattle.laws.specs.Keeping.{level_at, said, Holds, Kept, RebuildsKeepEveryBlock, builds, NoneBuilds, addresses, OccupiedLevelsHold}
 use Rattle.laws.proofs.Scripts.{Mark, loads, access_acts, rebuild_acts}
 use Rattle.laws.proofs.Invariant.{accesses_made, Ready}
 use Rattle.laws.proofs.Contents.{Filled}
@@ -33,6 +33,8 @@ use Rattle.laws.proofs.Rebuilds.{rebuild_ready}
 use Rattle.laws.proofs.Gathering.{Places, rebuild_places}
 use Rattle.laws.proofs.Reading.{read_gives}
 use Rattle.laws.proofs.LevelsAt.{fits_length, rebuilt_here}
+use Rattle.laws.proofs.Staying.{level_stays}
+use Rattle.laws.proofs.Following.{after_append, accesses_counted}
 use Rattle.laws.proofs.Stands.{Stocked, stocked_filled, stocked_load, stocked_access, stocked_rebuild, new_says}
 use Rattle.laws.proofs.Accepted.{declined_not_accepted, same_bytes, load_turn, AccessPassed, access_passed, rebuild_turn, outcome_of, accepted_passed, performed_accepted, refused_declines, refused_stays, vacant_anywhere, opened_parts}
 
@@ -69,16 +71,31 @@ latest_push : (ts : List (List ℕ)) (w : World) (a : ℕ) (before : List ℕ) (
 latest_push ts w a before [] c = refl
 latest_push ts w a before (d ∷ cs) c = latest_push ts (performed ts w d).world a (set_by w.client.width a d (performed ts w d).answer before) cs c
 
--- among these calls one built level l, and then the blocks had these bytes
+none_push : (ts : List (List ℕ)) (w : World) (l : ℕ) (cs : List Call) (c : Call) → NoneBuilds ts w l cs → builds l (after ts w cs) c (performed ts (after ts w cs) c).answer ≡ false →
+    NoneBuilds ts w l (cs ++ (c ∷ []))
+none_push ts w l [] c none b = (b, tt)
+none_push ts w l (d ∷ cs) c none b = (none.0, none_push ts (performed ts w d).world l cs c none.1 b)
+
+-- among these calls one built level l, none later did, and after it the blocks had these bytes
 abbrev pub WasBuilt : List (List ℕ) → World → List Call → ℕ → (ℕ → List ℕ) → Type 0
 WasBuilt ts start past l f =
     (before : List Call) × (c : Call) × (later : List Call) × (past ≡ before ++ (c ∷ later))
     × (builds l (after ts start before) c (performed ts (after ts start before) c).answer ≡ true)
+    × NoneBuilds ts (performed ts (after ts start before) c).world l later
     × (f ≡ (λ a. latest ts start a [] (before ++ (c ∷ []))))
 
-was_built_push : (ts : List (List ℕ)) (start : World) (past : List Call) (c : Call) (l : ℕ) (f : ℕ → List ℕ) → WasBuilt ts start past l f → WasBuilt ts start (past ++ (c ∷ [])) l f
-was_built_push ts start past c l f (before, d, later, e, b, g) =
-    (before, d, later ++ (c ∷ []), ap (λ (cs : List Call). cs ++ (c ∷ [])) e ∙ append_assoc before (d ∷ later) (c ∷ []), b, g)
+was_built_push : (ts : List (List ℕ)) (start : World) (past : List Call) (c : Call) (l : ℕ) (f : ℕ → List ℕ) →
+    builds l (after ts start past) c (performed ts (after ts start past) c).answer ≡ false → WasBuilt ts start past l f → WasBuilt ts start (past ++ (c ∷ [])) l f
+was_built_push ts start past c l f other (before, d, later, e, b, none, g) =
+    let then_is : after ts start past ≡ after ts (performed ts (after ts start before) d).world later = ap (after ts start) e ∙ after_append ts start before (d ∷ later) in (
+      before,
+      d,
+      later ++ (c ∷ []),
+      ap (λ (cs : List Call). cs ++ (c ∷ [])) e ∙ append_assoc before (d ∷ later) (c ∷ []),
+      b,
+      none_push ts (performed ts (after ts start before) d).world l later c none (ap (λ w. builds l w c (performed ts w c).answer) (sym then_is) ∙ other),
+      g,
+    )
 
 -- while an access is due no address is held, and while a rebuild is due one is
 none_due : (L K : ℕ) (k : Client) (r j : ℕ) (h : Option ℕ) (s : List (Act Mark)) → 2 * j + 1 ≡ k.number → Ready L K r h s k → h ≡ None
@@ -91,7 +108,7 @@ some_due L K k r j None s turn ready = absurd (let n : k.number ≡ r + r + 1 = 
 
 -- ---- one call
 
-module _ (ts : List (List ℕ)) (From From' : ℕ → (ℕ → List ℕ) → Type 0) (weaker : (l : ℕ) (f : ℕ → List ℕ) → From l f → From' l f) where
+module _ (ts : List (List ℕ)) (From From' : ℕ → (ℕ → List ℕ) → Type 0) where
   after_loading : (w : World) (all : List ℕ) → Unloaded ts w → From' w.client.top (block_bytes w.client.width all) →
       Running ts From' (block_bytes w.client.width all) (loading ts w all).world
   unfolding loading
@@ -108,10 +125,11 @@ module _ (ts : List (List ℕ)) (From From' : ℕ → (ℕ → List ℕ) → Typ
       })
       fresh
 
-  after_accessing : (w : World) (value : ℕ → List ℕ) (j op a : ℕ) (run : List ℕ) → AccessPassed (length ts) w.client j op a → Running ts From value w →
+  after_accessing : (w : World) (value : ℕ → List ℕ) (j op a : ℕ) (run : List ℕ) → ((l : ℕ) (f : ℕ → List ℕ) → From l f → From' l f) →
+      AccessPassed (length ts) w.client j op a → Running ts From value w →
       Running ts From' (λ x. cond (eqb op 1 && eqb a x) run (value x)) (accessing ts w op a run).world
   unfolding accessing
-  after_accessing w value j op a run ok now = record {
+  after_accessing w value j op a run weaker ok now = record {
     rebuilds = now.rebuilds;
     due = Some a;
     script = now.script ++ access_acts a w.client;
@@ -146,10 +164,11 @@ module _ (ts : List (List ℕ)) (From From' : ℕ → (ℕ → List ℕ) → Typ
           cond-false (eqb op 0) (found_bytes ts w.slots (found_from a 0 w.client.levels) (asks a w.client.levels)) run e
           ∙ sym (cond-true (eqb op 1 && eqb a a) run (value a) (and_from (eqb op 1) (eqb a a) (eq-eqb op 1 (omega (arith, ok.operation))) (eq-eqb a a refl)))
 
-  after_rebuilding : (w : World) (value : ℕ → List ℕ) (j : ℕ) → 2 * j + 2 ≡ w.client.number → Running ts From value w → From' (rebuild_level w.client) value →
+  after_rebuilding : (w : World) (value : ℕ → List ℕ) (j : ℕ) → ((l : ℕ) (f : ℕ → List ℕ) → rebuild_level w.client < l → From l f → From' l f) →
+      2 * j + 2 ≡ w.client.number → Running ts From value w → From' (rebuild_level w.client) value →
       Running ts From' value (rebuilding ts w).world
   unfolding rebuilding
-  after_rebuilding w value j turn now fresh = record {
+  after_rebuilding w value j weaker turn now fresh = record {
     rebuilds = suc now.rebuilds;
     due = None;
     script = now.script ++ rebuild_acts w.client;
@@ -169,8 +188,8 @@ module _ (ts : List (List ℕ)) (From From' : ℕ → (ℕ → List ℕ) → Typ
       stocked : Stocked ts (Some is_due.0) From value w
       stocked = subst (λ (h : Option ℕ). Stocked ts h From value w) is_due.1 now.stocked
 
-  unchanged : (w : World) (value : ℕ → List ℕ) → Running ts From value w → Running ts From' value w
-  unchanged w value now = record {
+  unchanged : (w : World) (value : ℕ → List ℕ) → ((l : ℕ) (f : ℕ → List ℕ) → From l f → From' l f) → Running ts From value w → Running ts From' value w
+  unchanged w value weaker now = record {
     rebuilds = now.rebuilds;
     due = now.due;
     script = now.script;
@@ -192,31 +211,36 @@ module _ (ts : List (List ℕ)) (From From' : ℕ → (ℕ → List ℕ) → Typ
   unloaded_number : (w : World) → Unloaded ts w → w.client.number ≡ 0
   unloaded_number w un = ap (λ (k : Client). k.number) un.client
 
-  accepted_step : (w : World) (value : ℕ → List ℕ) (c : Call) → verdict (length ts) w.client c ≡ None → Known ts From value w →
+  -- what is told of a level's build is still told after a call with this answer, unless the call builds the level
+  abbrev Still : World → Call → Answer → Type 0
+  Still w c answer = (l : ℕ) (f : ℕ → List ℕ) → builds l w c answer ≡ false → From l f → From' l f
+
+  accepted_step : (w : World) (value : ℕ → List ℕ) (c : Call) → verdict (length ts) w.client c ≡ None → Still w c (accept ts w c).answer → Known ts From value w →
       ((l : ℕ) → builds l w c (accept ts w c).answer ≡ true → From' l (then_value w value c (accept ts w c))) →
       Known ts From' (then_value w value c (accept ts w c)) (accept ts w c).world
   unfolding loading accessing rebuilding
-  accepted_step w value (load all room) ok (inl un) fresh = inr (after_loading w all un (fresh w.client.top (eq-eqb w.client.top w.client.top refl)))
-  accepted_step w value (load all room) ok (inr now) fresh = absurd (omega (arith, load_turn (length ts) w.client all room ok, now.ready.number))
-  accepted_step w value (access j op a run room) ok (inl un) fresh =
+  accepted_step w value (load all room) ok still (inl un) fresh = inr (after_loading w all un (fresh w.client.top (eq-eqb w.client.top w.client.top refl)))
+  accepted_step w value (load all room) ok still (inr now) fresh = absurd (omega (arith, load_turn (length ts) w.client all room ok, now.ready.number))
+  accepted_step w value (access j op a run room) ok still (inl un) fresh =
       absurd (omega (arith, unloaded_number w un, (access_passed (length ts) w.client j op a run room ok).turn))
-  accepted_step w value (access j op a run room) ok (inr now) fresh = inr (after_accessing w value j op a run (access_passed (length ts) w.client j op a run room ok) now)
-  accepted_step w value (rebuild j room) ok (inl un) fresh = absurd (omega (arith, unloaded_number w un, rebuild_turn (length ts) w.client j room ok))
-  accepted_step w value (rebuild j room) ok (inr now) fresh =
-      inr (after_rebuilding w value j (rebuild_turn (length ts) w.client j room ok) now (fresh (rebuild_level w.client) (eq-eqb (rebuild_level w.client) (rebuild_level w.client) refl)))
+  accepted_step w value (access j op a run room) ok still (inr now) fresh = inr (after_accessing w value j op a run (λ l f. still l f refl) (access_passed (length ts) w.client j op a run room ok) now)
+  accepted_step w value (rebuild j room) ok still (inl un) fresh = absurd (omega (arith, unloaded_number w un, rebuild_turn (length ts) w.client j room ok))
+  accepted_step w value (rebuild j room) ok still (inr now) fresh =
+      inr (after_rebuilding w value j (λ l f high. still l f (ne_eqb l (rebuild_level w.client) (λ e. omega arith))) (rebuild_turn (length ts) w.client j room ok) now
+      (fresh (rebuild_level w.client) (eq-eqb (rebuild_level w.client) (rebuild_level w.client) refl)))
 
   -- any call
-  known_step : (w : World) (value : ℕ → List ℕ) (c : Call) → Known ts From value w →
+  known_step : (w : World) (value : ℕ → List ℕ) (c : Call) → Still w c (performed ts w c).answer → Known ts From value w →
       ((l : ℕ) → builds l w c (performed ts w c).answer ≡ true → From' l (then_value w value c (performed ts w c))) →
       Known ts From' (then_value w value c (performed ts w c)) (performed ts w c).world
-  known_step w value c known fresh = by (verdict (length ts) w.client c) refl known fresh
+  known_step w value c still known fresh = by (verdict (length ts) w.client c) refl still known fresh
     where
-      by : (o : Option Refusal) → verdict (length ts) w.client c ≡ o → Known ts From value w →
+      by : (o : Option Refusal) → verdict (length ts) w.client c ≡ o → Still w c (outcome_of ts w c o).answer → Known ts From value w →
           ((l : ℕ) → builds l w c (outcome_of ts w c o).answer ≡ true → From' l (then_value w value c (outcome_of ts w c o))) →
           Known ts From' (then_value w value c (outcome_of ts w c o)) (outcome_of ts w c o).world
-      by (Some r) e (inl un) fresh = inl un
-      by (Some r) e (inr now) fresh = inr (unchanged w value now)
-      by None e known fresh = accepted_step w value c e known fresh
+      by (Some r) e still (inl un) fresh = inl un
+      by (Some r) e still (inr now) fresh = inr (unchanged w value (λ l f. still l f refl) now)
+      by None e still known fresh = accepted_step w value c e still known fresh
 
 -- ---- every list of calls
 
@@ -228,8 +252,8 @@ module _ (ts : List (List ℕ)) (start : World) where
   at_push past c known =
       subst (Known ts (WasBuilt ts start (past ++ (c ∷ []))) (λ a. latest ts start a [] (past ++ (c ∷ [])))) (sym (after_push ts start past c))
       (subst (λ (value : ℕ → List ℕ). Known ts (WasBuilt ts start (past ++ (c ∷ []))) value (performed ts (after ts start past) c).world) now
-      (known_step ts (WasBuilt ts start past) (WasBuilt ts start (past ++ (c ∷ []))) (was_built_push ts start past c)
-      (after ts start past) (λ a. latest ts start a [] past) c known (λ l built. (past, c, [], refl, built, now))))
+      (known_step ts (WasBuilt ts start past) (WasBuilt ts start (past ++ (c ∷ [])))
+      (after ts start past) (λ a. latest ts start a [] past) c (was_built_push ts start past c) known (λ l built. (past, c, [], refl, built, tt, now))))
     where
       now : ◌≡◌ {A = ℕ → List ℕ} (λ a. set_by (after ts start past).client.width a c (performed ts (after ts start past) c).answer (latest ts start a [] past))
           (λ a. latest ts start a [] (past ++ (c ∷ [])))
@@ -320,7 +344,7 @@ rebuild_now ts From value w j room bytes es (inr now) answered = record {
       (subst (λ (v : Level). (i : ℕ) → i < level_slots (rebuild_level w.client) →
       slot_at (wrote w.slots (rebuild_requests ts w)) (level_start (rebuild_level w.client) + slot_of ts v.build i) ≡ said w.client.width value v i)
       (sym (rebuilt_here w.client))
-      (new_says ts From (λ l f. Unit {0}) value w now.rebuilds due.0 now.script (λ l f x. tt) tt well.kept ready stocked));
+      (new_says ts From (λ l f. Unit {0}) value w now.rebuilds due.0 now.script (λ l f high x. tt) tt well.kept ready stocked));
 }
   where
     none : verdict (length ts) w.client (rebuild j room) ≡ None
@@ -363,20 +387,61 @@ level_now ts From value w l (inr now) occ = by (cases_lt l (length w.client.leve
         (full.built, full.from, full.says)
     by (inr high) = absurd (false≢true (sym (ap (λ (v : Level). v.occupied) (get_or_past w.client.levels l vacant high)) ∙ occ))
 
+-- the build of a level that a call built is the number of accesses before it
+built_number : (ts : List (List ℕ)) (From : ℕ → (ℕ → List ℕ) → Type 0) (value : ℕ → List ℕ) (w : World) (c : Call) (l : ℕ) → Known ts From value w →
+    builds l w c (performed ts w c).answer ≡ true → (level_at (performed ts w c).world.client l).build ≡ w.client.accesses
+unfolding loading accessing rebuilding
+built_number ts From value w c l known = by (verdict (length ts) w.client c) refl
+  where
+    accepts : (c : Call) → verdict (length ts) w.client c ≡ None → Known ts From value w → builds l w c (accept ts w c).answer ≡ true →
+        (level_at (accept ts w c).world.client l).build ≡ w.client.accesses
+    accepts (load all room) ok (inl un) b =
+        let is = un.client in
+        ap₂ (λ k i. (level_at (loaded_client k) i).build) is (eqb-true l w.client.top b ∙ ap (λ k. k.top) is)
+        ∙ ap (λ v. v.build) (get_or-set_same (replicate (suc un.levels) vacant) un.levels (loaded_level un.levels) vacant (omega (arith, length-replicate (suc un.levels) vacant)))
+        ∙ sym (ap (λ k. k.accesses) is)
+    accepts (load all room) ok (inr now) b = absurd (omega (arith, load_turn (length ts) w.client all room ok, now.ready.number))
+    accepts (access j op a run room) ok known b = absurd (false≢true b)
+    accepts (rebuild j room) ok known b =
+        ap (λ i. (level_at (rebuilt_client w.client) i).build) (eqb-true l (rebuild_level w.client) b) ∙ ap (λ v. v.build) (rebuilt_here w.client)
+
+    by : (o : Option Refusal) → verdict (length ts) w.client c ≡ o → builds l w c (outcome_of ts w c o).answer ≡ true →
+        (level_at (outcome_of ts w c o).world.client l).build ≡ w.client.accesses
+    by (Some r) e b = absurd (false≢true b)
+    by None e b = accepts c e known b
+
 pub occupied_levels_hold : OccupiedLevelsHold
 occupied_levels_hold L W K p ts some choice cs l occ = by (opening_answer L W p) refl
   where
+    start : World
+    start = opening L W p
+
     Goal : Type 0
     Goal = (before : List Call) × (c : Call) × (later : List Call) × (cs ≡ before ++ (c ∷ later))
-        × (builds l (after ts (opening L W p) before) c (performed ts (after ts (opening L W p) before) c).answer ≡ true)
-        × Holds ts (after ts (opening L W p) cs) l (λ a. latest ts (opening L W p) a [] (before ++ (c ∷ [])))
+        × (builds l (after ts start before) c (performed ts (after ts start before) c).answer ≡ true)
+        × NoneBuilds ts (after ts start (before ++ (c ∷ []))) l later
+        × ((level_at (after ts start cs).client l).build ≡ length (addresses ts start before))
+        × Holds ts (after ts start cs) l (λ a. latest ts start a [] (before ++ (c ∷ [])))
 
-    from_built : (f : ℕ → List ℕ) → WasBuilt ts (opening L W p) cs l f → Holds ts (after ts (opening L W p) cs) l f → Goal
-    from_built f (before, c, later, e, b, g) holds = (before, c, later, e, b, subst (Holds ts (after ts (opening L W p) cs) l) g holds)
+    from_built : Unloaded ts start → (f : ℕ → List ℕ) → WasBuilt ts start cs l f → Holds ts (after ts start cs) l f → Goal
+    from_built un f (before, c, later, e, b, none, g) holds =
+        let built = (performed ts (after ts start before) c).world in
+        let then_is : after ts start cs ≡ after ts built later = ap (after ts start) e ∙ after_append ts start before (c ∷ later) in
+        let kept = (level_stays ts built l later none).same (ap (λ w. (level_at w.client l).occupied) (sym then_is) ∙ occ) in
+        let number = built_number ts (WasBuilt ts start before) (λ a. latest ts start a [] before) (after ts start before) c l (at_all ts start un before) b in (
+          before,
+          c,
+          later,
+          e,
+          b,
+          subst (λ w. NoneBuilds ts w l later) (sym (after_push ts start before c)) none,
+          ap (λ w. (level_at w.client l).build) then_is ∙ kept ∙ number ∙ sym (accesses_counted ts start before) ∙ add-zero (length (addresses ts start before)),
+          subst (Holds ts (after ts start cs) l) g holds,
+        )
 
     by : (o : Option Refusal) → opening_answer L W p ≡ o → Goal
     by (Some r) e = absurd (never_occupied L W p ts r cs l e occ)
     by None e =
-        let here = level_now ts (WasBuilt ts (opening L W p) cs) (λ x. latest ts (opening L W p) x [] cs) (after ts (opening L W p) cs) l
-        (at_all ts (opening L W p) (opened_unloaded L W K p ts some choice e) cs) occ in
-        from_built here.0 here.1 here.2
+        let un = opened_unloaded L W K p ts some choice e in
+        let here = level_now ts (WasBuilt ts start cs) (λ x. latest ts start x [] cs) (after ts start cs) l (at_all ts start un cs) occ in
+        from_built un here.0 here.1 here.2

@@ -47,3 +47,4 @@ pub mod Stands
 pub mod Bytes
 pub mod Differences
 pub mod EntryCounts
+pub mod TopList

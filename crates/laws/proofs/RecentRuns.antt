@@ -143,12 +143,12 @@ lists_are_recent_addresses L W K p ts some choice cs l low = by (opening_answer 
     by : (o : Option Refusal) → opening_answer L W p ≡ o →
         let v = level_at (after ts start cs).client l in
         v.occupied ≡ true →
-        (2 ^ l ≤ v.build) × (v.members ≡ filter (has (take (2 ^ l) (drop (v.build - 2 ^ l) (addresses ts start cs)))) (range_with_len 0 (blocks L)))
+        (2 ^ l ≤ v.build) × (v.build ≤ length (addresses ts start cs))
+        × (v.members ≡ filter (has (take (2 ^ l) (drop (v.build - 2 ^ l) (addresses ts start cs)))) (range_with_len 0 (blocks L)))
     by (Some x) e occupied =
         absurd (opened_vacant L W (opening_answer L W p) l low
         (ap (λ k. (level_at k l).occupied) (sym (after_client ts start cs ∙ refused_stays (length ts) start.client cs (ap (λ o. unrefused (opened L W o)) e))) ∙ occupied))
     by None e occupied =
         let is : start.client ≡ opened L W None = ap (opened L W) e in
         let recent = recent_along L W ts start [] cs [] (omega (arith, many)) (unloaded is refl) (subst (Recent L []) (sym is) (opened_recent L W)) in
-        let known = recent.lists l low occupied in
-        (known.0, known.2)
+        recent.lists l low occupied

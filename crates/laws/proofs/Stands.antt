@@ -177,7 +177,7 @@ GatheredRight ts value w =
     kept_for ts k.accesses (slot_of ts k.accesses j) (blank k.width) (gathered ts w) ≡ said k.width value (rebuilt_level (rebuilt_members k) k.accesses) j
 
 module _ (ts : List (List ℕ)) (From From' : ℕ → (ℕ → List ℕ) → Type 0) (value : ℕ → List ℕ) (w : World) (r a : ℕ) (s : List (Act Mark))
-    (weaker : (l : ℕ) (f : ℕ → List ℕ) → From l f → From' l f) (fresh : From' (rebuild_level w.client) value)
+    (weaker : (l : ℕ) (f : ℕ → List ℕ) → rebuild_level w.client < l → From l f → From' l f) (fresh : From' (rebuild_level w.client) value)
     (right : GatheredRight ts value w) (ready : Ready w.client.top (length ts) r (Some a) s w.client) (stocked : Stocked ts (Some a) From value w) where
   abbrev rebuilt_world : World
   rebuilt_world = record { client = rebuilt_client w.client; held_bytes = []; slots = wrote w.slots (rebuild_requests ts w) }
@@ -255,7 +255,7 @@ module _ (ts : List (List ℕ)) (From From' : ℕ → (ℕ → List ℕ) → Typ
       Full ts rebuilt_world.slots w.client.width i None (take i (rebuilt_client w.client).levels) (From' i) value (level_at w.client i)
   higher_full i high low occ full = record {
     built = full.built;
-    from = weaker i full.built full.from;
+    from = weaker i full.built high full.from;
     table = full.table;
     says = λ j h. other_levels ts w i (slot_of ts (level_at w.client i).build j) low (λ e. omega arith) (full.table.below j h) ∙ full.says j h;
     current = λ j small free.

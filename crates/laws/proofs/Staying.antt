@@ -10,8 +10,7 @@ use Rattle.rules.specs.Loading.{loading}
 use Rattle.rules.specs.Accessing.{finds, counted_from, accessing}
 use Rattle.rules.specs.Rebuilding.{rebuilding}
 use Rattle.rules.specs.Runs.{accept, performed, after}
-use Rattle.laws.specs.Keeping.{level_at, builds}
-use Rattle.laws.specs.OneRound.{NoneBuilds}
+use Rattle.laws.specs.Keeping.{level_at, builds, NoneBuilds}
 
 -- a level later on: if it is occupied, it was, with the same build and list
 pub record Stays (before later : Level) : Type 0 where

@@ -52,16 +52,10 @@ builds l w (load all room) (accepted bytes es) = l == w.client.top
 builds l w (access j op a run room) (accepted bytes es) = false
 builds l w (rebuild j room) (accepted bytes es) = l == rebuild_level w.client
 
--- after any run every slot of an occupied level holds what its index says, its members with the bytes that they had when it was built
-abbrev pub OccupiedLevelsHold : Type 0
-OccupiedLevelsHold =
-    (L W K : ℕ) (p : Parts) (ts : List (List ℕ)) → 1 ≤ K → Choices p.supply_top K ts →
-    (cs : List Call) (l : ℕ) →
-    let start = opening L W p in
-    (level_at (after ts start cs).client l).occupied ≡ true →
-    (before : List Call) × (c : Call) × (later : List Call) × (cs ≡ before ++ (c ∷ later))
-    × (let w = after ts start before in builds l w c (performed ts w c).answer ≡ true)
-    × Holds ts (after ts start cs) l (λ a. latest ts start a [] (before ++ (c ∷ [])))
+-- none of these calls builds level l
+abbrev pub NoneBuilds : List (List ℕ) → World → ℕ → List Call → Type 0
+NoneBuilds ts w l [] = Unit {0}
+NoneBuilds ts w l (c ∷ cs) = (builds l w c (performed ts w c).answer ≡ false) × NoneBuilds ts (performed ts w c).world l cs
 
 -- the addresses of the accepted accesses of a list, in order
 abbrev pub accessed : Call → Answer → List ℕ
@@ -74,6 +68,21 @@ abbrev pub addresses : List (List ℕ) → World → List Call → List ℕ
 addresses ts w [] = []
 addresses ts w (c ∷ cs) = accessed c (performed ts w c).answer ++ addresses ts (performed ts w c).world cs
 
+-- After any run an occupied level was built by one of its calls, and by none later. The level's build is the number of accesses accepted before that
+-- call, and every slot of the level holds what its index says, its members with the bytes that they had after that call.
+abbrev pub OccupiedLevelsHold : Type 0
+OccupiedLevelsHold =
+    (L W K : ℕ) (p : Parts) (ts : List (List ℕ)) → 1 ≤ K → Choices p.supply_top K ts →
+    (cs : List Call) (l : ℕ) →
+    let start = opening L W p in
+    let v = level_at (after ts start cs).client l in
+    v.occupied ≡ true →
+    (before : List Call) × (c : Call) × (later : List Call) × (cs ≡ before ++ (c ∷ later))
+    × (let w = after ts start before in builds l w c (performed ts w c).answer ≡ true)
+    × NoneBuilds ts (after ts start (before ++ (c ∷ []))) l later
+    × (v.build ≡ length (addresses ts start before))
+    × Holds ts (after ts start cs) l (λ a. latest ts start a [] (before ++ (c ∷ [])))
+
 -- the list of an occupied level l below L is the set of the addresses of the 2^l accesses up to its build
 abbrev pub ListsAreRecentAddresses : Type 0
 ListsAreRecentAddresses =
@@ -82,5 +91,12 @@ ListsAreRecentAddresses =
     let start = opening L W p in
     let v = level_at (after ts start cs).client l in
     v.occupied ≡ true →
-    (2 ^ l ≤ v.build)
+    (2 ^ l ≤ v.build) × (v.build ≤ length (addresses ts start cs))
     × (v.members ≡ filter (has (take (2 ^ l) (drop (v.build - 2 ^ l) (addresses ts start cs)))) (range_with_len 0 (blocks L)))
+
+-- the list of level L, whenever that is occupied, is all addresses, from 0 to n - 1
+abbrev pub TopListIsAllAddresses : Type 0
+TopListIsAllAddresses =
+    (L W : ℕ) (p : Parts) (ts : List (List ℕ)) (cs : List Call) →
+    let v = level_at (after ts (opening L W p) cs).client L in
+    v.occupied ≡ true → v.members ≡ range_with_len 0 (blocks L)

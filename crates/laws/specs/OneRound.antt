@@ -5,12 +5,11 @@ use Rattle.shape.specs.Numbers.{level_slots, level_start}
 use Rattle.store.specs.declared.entry.Entry.{Entry}
 use Rattle.store.specs.Requests.{entry_of}
 use Rattle.index.specs.Lists.{has}
-use Rattle.rules.specs.World.{World}
 use Rattle.rules.specs.Calls.{Call, access, accepted}
 use Rattle.rules.specs.Opening.{Parts, opening}
 use Rattle.rules.specs.Runs.{performed, after}
 use Rattle.laws.specs.Runs.{Choices, bit}
-use Rattle.laws.specs.Keeping.{builds, addresses}
+use Rattle.laws.specs.Keeping.{NoneBuilds, addresses}
 
 -- the levels that are occupied after t accesses: below L those whose bit of t is set, and L
 abbrev pub occupied_levels : ℕ → ℕ → List ℕ
@@ -29,11 +28,6 @@ OneSlotInEveryOccupiedLevel =
     (performed ts (after ts (opening L W p) cs) (access j op a run room)).answer ≡ accepted bytes es →
     (slot : ℕ → ℕ) × ((l : ℕ) → l ≤ L → slot l < level_slots l)
     × (es ≡ one_round (map (λ l. level_start l + slot l) (occupied_levels L (length (addresses ts (opening L W p) cs)))))
-
--- none of these calls builds level l
-abbrev pub NoneBuilds : List (List ℕ) → World → ℕ → List Call → Type 0
-NoneBuilds ts w l [] = Unit {0}
-NoneBuilds ts w l (c ∷ cs) = (builds l w c (performed ts w c).answer ≡ false) × NoneBuilds ts (performed ts w c).world l cs
 
 -- the places of entries
 abbrev pub places : List Entry → List ℕ
