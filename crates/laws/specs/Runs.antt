@@ -1,4 +1,4 @@
--- Runs of a client that was opened without a refusal, under a choice of permutations; and what is public of its levels.
+-- The choices that a supply of some L and K may mean, and the bits of a number.
 use Rattle.std.specs.Prelude.{ℕ, zero, suc, ◌/◌, ◌%◌, Bool, List, map, ◌==◌}
 use Rattle.std.specs.List.{range_with_len}
 use Rattle.shape.specs.Numbers.{level_slots, level_of_build}
