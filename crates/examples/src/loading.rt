@@ -39,7 +39,7 @@ impl Parts {
     }
 }
 
-// What a load answered: the entries, or the number of the refusal, and the number of the turn that it gave.
+// What a load answered: the entries, or the number of the refusal, and the number of the turn that it gave. Each arm ends its turn.
 fn told(answer: Result<Done<Resting>, Declined<Unloaded>>) -> Result<(u32, u32), (u32, u32)> {
     match answer {
         Ok(Done { turn, entries }) => Ok((entries, turn.end())),

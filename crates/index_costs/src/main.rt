@@ -142,7 +142,7 @@ fn ask_round<I: Index>(index: &mut I, round: &[Question], before: Checksum) -> C
     })
 }
 
-// Fills the largest list, asks all rounds, and gives the checksum of the answers.
+// Fills the largest list, asks all rounds, and gives the checksum of the answers. Asks for what the making of the index has shown.
 fn ask_all<I: Index>(heap: Global, index: &mut I, job: Job) -> Result<Checksum, MakeError>
     requires { (1 ≤ job.levels) × (job.levels ≤ 12) }
 {

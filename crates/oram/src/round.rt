@@ -6,7 +6,7 @@ ghost use Rattle.oram.specs.Loading.{put_request};
 use store::entry::Entry;
 use store::store::Store;
 
-// Puts one slot, and notes the entry at this position of the trace.
+// Puts one slot, and notes the entry at this position of the trace. Each of the six has a part of its own in the round.
 pub(crate) fn put_slot<S: Store>(
     store: &mut S,
     place: u32,
