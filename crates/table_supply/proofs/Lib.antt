@@ -1,3 +1,4 @@
+pub mod Converse
 pub mod Inverting
 pub mod Noting
 pub mod Sums

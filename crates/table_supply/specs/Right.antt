@@ -1,7 +1,7 @@
 -- A right table is a lawful supply.
-use Rattle.std.specs.Prelude.{◌≡◌, ℕ, ◌+◌, ◌<◌, ◌≤◌, List, length, drop, slice_index}
+use Rattle.std.specs.Prelude.{◌≡◌, ℕ, ◌+◌, ◌<◌, ◌≤◌, List, drop, slice_index}
 use Rattle.std.proofs.Common.{sym, ap, ◌∙◌, arith}
-use Rattle.std.proofs.lemmas.List.{get_or-take, get_or-drop, length-take, length-drop}
+use Rattle.std.proofs.lemmas.List.{get_or-take, get_or-drop}
 use Rattle.permutations.specs.Tables.{position}
 use Rattle.permutations.proofs.Tables.{onto}
 use Rattle.supply.specs.Choice.{Lawful}
@@ -21,14 +21,3 @@ table_lawful L K slots low high some most all = record {
   where
     slot : (b i : ℕ) → i < part_slots L b → slice_index slots (slots_before L b + i) ≡ slice_index (part L slots b) i
     slot b i k = sym (get_or-take (part_slots L b) (drop (slots_before L b) slots) i 0 k ∙ get_or-drop (slots_before L b) slots i 0)
-
--- a table whose every slot lies within its build and is found at its own index has permutations alone
-pub permuted_from : (L : ℕ) (slots : List ℕ) (n : ℕ) → length slots ≡ slots_before L n
-    → ((b i : ℕ) → b < n → i < part_slots L b → slice_index (part L slots b) i < part_slots L b)
-    → ((b i : ℕ) → b < n → i < part_slots L b → position (part L slots b) (slice_index (part L slots b) i) ≡ i)
-    → ((b : ℕ) → b < n → slots_before L b + part_slots L b ≤ slots_before L n) → Permuted L slots n
-permuted_from L slots n whole below found ends b h = record {
-  sized = simp (length-take, length-drop) (omega (arith, ends b h));
-  below = λ i k. below b i h k;
-  apart = λ i j k l e. sym (found b i h k) ∙ ap (position (part L slots b)) e ∙ found b j h l;
-}
