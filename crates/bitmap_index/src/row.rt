@@ -15,6 +15,7 @@ pub struct BitmapRow {
     levels: Level,
     // l: there are at most 2^l members
     level: Level,
+    // size and last member stand beside the words, so that no question counts the bits for them
     size: u32,
     // one more than the last member, 0 where there is none
     next: u32,

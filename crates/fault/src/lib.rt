@@ -123,4 +123,13 @@ mod tests {
     fn words_are_given(rt: HostRuntime) {
         assert!(rt; words(&rt).is_ok());
     }
+
+    #[test]
+    fn a_key_is_read(rt: HostRuntime) -> io::Result<()> {
+        fs::write(&rt, "key_of_a_test", [7u8; 32].as_slice())?;
+        let key = read_key(&rt, "key_of_a_test");
+        fs::remove_file(&rt, "key_of_a_test")?;
+        assert!(rt; key.is_ok());
+        Ok(())
+    }
 }

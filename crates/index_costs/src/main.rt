@@ -105,6 +105,7 @@ fn make_round(heap: Global, topic: Topic, level: u32) -> Result<Vec<Question>, A
     clear.into_iter().chain(questions).collect(heap)
 }
 
+// An absent answer counts as the largest number in the checksum.
 fn ask<I: Index>(index: &mut I, question: Question) -> u32 {
     let level = question.level;
     let number = question.number;

@@ -15,7 +15,8 @@ use store::store::Store;
 
 mod part;
 
-// The first part's places come first. Payloads of a round of both parts pass through `staging`, which has room for a round.
+// The first part's places come first. Payloads of a round of both parts pass through `staging`, which has room for a round, since a round
+// must not fail for want of memory.
 pub struct JoinedStore<F: Store, S: Store> {
     first: F,
     second: S,
@@ -41,7 +42,7 @@ fn joins<F: Store, S: Store>(width: usize, first: &F, second: &S) -> bool
         && u64::from(first.places()) + u64::from(second.places()) <= 1_000_000
 }
 
-// The width at which the parts are joined.
+// The width at which the parts are joined; by the rules 0, with no places, where they do not fit.
 fn common_width<F: Store, S: Store>(first: &F, second: &S) -> usize
     ensures { result ≡ common_width (F.Store.state first.now) (S.Store.state second.now) }
 {

@@ -94,7 +94,7 @@ impl Side {
         }
     }
 
-    // Fills keys and bytes at the part's places, by one round at most. Where all places are the part's, it works in the caller's buffers.
+    // Fills keys and bytes at the part's places, by one round at most; the part's keys, at most 13, lie in an array, as calls never allocate. Where all places are the part's, it works in the caller's buffers.
     // This and `put` are the two directions of a round: places, keys and bytes come as `Store` takes them, and the clauses differ.
     #[tactic(auto, using(crate::proofs::Shares::scattered_all, crate::proofs::Shares::scattered_none))]
     pub(crate) fn fetch<S: Store>(

@@ -12,7 +12,6 @@ use chacha20::key::Key;
 use shape::level::Level;
 use shape::refusal::Refusal;
 use supply::supply::{MOST_BUILDS, Supply};
-use supply::within;
 
 #[derive(Drop)]
 pub struct KeyedSupply {
@@ -57,7 +56,6 @@ impl Supply for KeyedSupply {
         MOST_BUILDS
     }
 
-    // This and `index_of` differ in the direction alone; a helper for what they share is longer, with its contract.
     fn slot_of(&mut self, build: u32, index: u32) -> Result<u32, Refusal>
         ensures answer { result ≡ slot_answer (keyed self.old.levels.number self.old.desk.key.words) build index }
         ensures same { keyed self.new.levels.number self.new.desk.key.words ≡ keyed self.old.levels.number self.old.desk.key.words }
@@ -65,12 +63,7 @@ impl Supply for KeyedSupply {
     {
         let desk = &mut self.desk;
         let guard = Wiped(&mut desk.words);
-        let level = within::level_of(self.levels, MOST_BUILDS, build, index)?;
-        let permutation = Permutation {
-            key: &desk.key,
-            build,
-            level,
-        };
+        let permutation = Permutation::asked(&desk.key, self.levels, build, index)?;
         Ok(permutation.forth(guard.0, index))
     }
 
@@ -81,12 +74,7 @@ impl Supply for KeyedSupply {
     {
         let desk = &mut self.desk;
         let guard = Wiped(&mut desk.words);
-        let level = within::level_of(self.levels, MOST_BUILDS, build, slot)?;
-        let permutation = Permutation {
-            key: &desk.key,
-            build,
-            level,
-        };
+        let permutation = Permutation::asked(&desk.key, self.levels, build, slot)?;
         Ok(permutation.back(guard.0, slot))
     }
 }

@@ -4,6 +4,9 @@ ghost use Rattle.std.specs.Prelude.{◌≡◌, ◌+◌, ◌*◌, ◌/◌, ◌%�
 use chacha20::block;
 use chacha20::key::Key;
 use shape::level::Level;
+use shape::refusal::Refusal;
+use supply::supply::MOST_BUILDS;
+use supply::within;
 
 // The permutation that a key gives for a build, which goes to a level.
 #[derive(Clone, Copy)]
@@ -13,10 +16,25 @@ pub struct Permutation<'a> {
     pub level: Level,
 }
 
-impl Permutation<'_> {
-    ghost use Rattle.shape.specs.Numbers.{level_slots};
+impl<'a> Permutation<'a> {
+    ghost use Rattle.std.specs.Prelude.{true, false, MatchResult};
+    ghost use Rattle.shape.specs.Numbers.{level_slots, level_of_build};
+    ghost use Rattle.supply.specs.Choice.{asked_within};
     ghost use Rattle.keyed_supply.specs.Rounds.{left_changed, right_changed, from_even, from_odd, back_even, back_odd, forth, back};
     ghost use Rattle.keyed_supply.specs.Keyed.{drawn, left_width, right_width, network_of};
+
+    // That of a build that has a slot of this number.
+    pub fn asked(
+        key: &'a Key,
+        levels: Level,
+        build: u32,
+        number: u32,
+    ) -> Result<Permutation<'a>, Refusal>
+        ensures { MatchResult result (λ p. (asked_within levels.number 1000000 build number ≡ true) × (p.key.now ≡ key.now) × (p.build ≡ build) × (p.level.number ≡ level_of_build levels.number build) × (number < level_slots p.level.number)) (λ e. (asked_within levels.number 1000000 build number ≡ false) × (e ≡ Refusal.BeyondSupply)) }
+    {
+        let level = within::level_of(levels, MOST_BUILDS, build, number)?;
+        Ok(Permutation { key, build, level })
+    }
 
     fn left_bits(&self) -> u32
         ensures { result ≡ left_width self.now.level.number }

@@ -84,6 +84,7 @@ fn load(heap: Global, job: Job) -> Result<Report, Fault> {
         turn,
         refusal,
     } = Client::open(job.levels, job.width, host, index, supply);
+    // By a match: each arm ends its turn.
     let answer = match client.load(turn, &job.bytes, &mut trace) {
         Ok(Done { turn, entries }) => {
             turn.end();

@@ -73,7 +73,7 @@ fn load_slot<S: Store, P: Supply>(
     let index = supply.index_of(0, slot).unwrap();
     let (key, payload) = blocks.slot(index);
     let place = blocks.dimensions.levels.start() + slot;
-    put_slot(store, place, key, payload, trace, slot as usize);
+    put_slot(store, place, key, payload, &mut trace[slot as usize]);
 }
 
 // Writes all slots of the highest level, in rising order.

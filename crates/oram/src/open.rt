@@ -93,7 +93,7 @@ impl<S: Store, I: Index, P: Supply> Client<S, I, P> {
         }
     }
 
-    // Its dimensions, where it was opened without a refusal. Its parts are asked again: width, places and levels never change.
+    // Its dimensions, where it was opened without a refusal; its parts serve it then, by its type.
     pub(crate) fn dimensions(&self) -> Result<Dimensions, Refusal>
         ensures { MatchResult result (λ d. (stands self.now.core (S.state self.now.store) (I.lists self.now.index) (P.choice self.now.supply) ≡ true) × (d.levels.number ≡ self.now.core.levels) × (d.width ≡ self.now.core.width)) (λ e. (stands self.now.core (S.state self.now.store) (I.lists self.now.index) (P.choice self.now.supply) ≡ false) × (e ≡ Refusal.NotOpened)) }
     {

@@ -13,7 +13,7 @@ pub struct Record {
     pub build: u32,
 }
 
-// One record for each level, an array as the rules have it; what lies above the highest level stays vacant.
+// One record for each level, an array since calls never allocate; what lies above the highest level stays vacant.
 #[derive(Clone, Copy)]
 pub struct Table {
     pub(crate) records: [Record; 13],

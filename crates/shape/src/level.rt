@@ -13,7 +13,8 @@ impl Level {
     ghost use Rattle.std.specs.Prelude.{◌≡◌, true, false, MatchResult};
     ghost use Rattle.shape.specs.Numbers.{levels_fit, blocks, level_slots, level_start, scratch_slots, scratch_start, places_needed, level_of_build};
 
-    // L, the highest level that a client can have.
+    // L, the highest level that a client can have. Who holds one says itself that it is at least 1: a type for that would put one more field
+    // between every L and its number.
     pub fn highest(number: u32) -> Result<Level, Refusal>
         ensures { MatchResult result (λ l. (levels_fit number ≡ true) × (1 ≤ l.number) × (l.number ≡ number)) (λ e. (levels_fit number ≡ false) × (e ≡ Refusal.OutOfRange)) }
     {

@@ -11,7 +11,7 @@ use shape::refusal::Refusal;
 use supply::supply::MOST_BUILDS;
 use supply::within;
 
-// A slot that has no index yet; an `Option` for each slot would take twice the memory.
+// A slot that has no index yet. No `Option`: once a table is taken every index is there, and each answer would unwrap one that cannot be empty.
 pub(crate) const NO_INDEX: u32 = u32::MAX;
 
 // The slots of the builds before one. Odd builds are of level 0, and an even one has twice the slots that its half has with one level less.
@@ -97,7 +97,7 @@ impl Parts {
         requires unnoted { Unnoted indices.old 0 (length slots.now) }
         ensures { MatchResult result (λ _. Permuted self.levels.number slots.now self.builds × Inverse self.levels.number slots.now self.builds indices.new) (λ e. (Permuted self.levels.number slots.now self.builds → ⊥) × (e ≡ Refusal.WrongTable)) }
     {
-        // A running sum: `slots_before` takes up to 13 steps for each build.
+        // A running sum: the parts are of unequal length, and of a rest that is cut off part by part no proof knows what was written.
         let mut start = 0;
         for build in 0..self.builds {
             let size = self.levels.of_build(build).slots() as usize;
