@@ -35,6 +35,7 @@ fn block_of_the_worked_example(rt: HostRuntime) {
     );
 }
 
+// Each vector has a test of its own name, with its words.
 #[test]
 fn block_vector_1(rt: HostRuntime) {
     let found = block_of(&key_with(0, 0), 0, [0, 0, 0]);

@@ -9,7 +9,7 @@ use std::test::Fail;
 use supply::straight::Straight;
 use supply::supply::Supply;
 
-// The number of the refusal, if the part was not made.
+// The number of the refusal, as the rules give it, if the part was not made.
 fn refused<T: Drop, E: Into<MakeError>>(made: Result<T, E>) -> Result<Option<u32>, Fail> {
     match made.map_err(E::into) {
         Ok(_) => Ok(None),
@@ -114,6 +114,7 @@ fn four_ranked<I: Index>(rt: &impl Abort, index: &mut I) {
     assert_eq!(rt; index.member(1, 0), None);
 }
 
+// Each kind of index has tests of its own name, of one call each.
 #[test]
 fn ranks_and_positions_by_bits(rt: HostRuntime) -> Result<(), Fail> {
     four_ranked(&rt, &mut BitmapIndex::new(rt.alloc(), 4)?);

@@ -11,7 +11,7 @@ use std::alloc::Global;
 use std::test::Fail;
 use supply::straight::Straight;
 
-// The number of the refusal at opening for L and W, and the turn's number.
+// The number of the refusal at opening for L and W, as the rules give it, and the turn's number.
 fn opened(
     (levels, width): (u32, usize),
     store: MemoryStore,

@@ -19,7 +19,7 @@ pub(crate) fn joined(
     JoinedStore::new(heap, first, second).map_err(|_| Fail::new("no memory"))
 }
 
-// An answer, a refusal by its number.
+// An answer, a refusal by its number: the tests state the numbers that the rules give.
 pub(crate) fn numbered<T>(answer: Result<T, Refusal>) -> Result<T, u32> {
     answer.map_err(Refusal::number)
 }

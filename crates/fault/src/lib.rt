@@ -44,6 +44,7 @@ impl fmt::Display for Fault {
 
 impl Error for Fault {}
 
+// A conversion from each cause.
 impl From<AllocError> for Fault {
     ghost from_gives = { λ _ r. r ≡ NoMemory };
 

@@ -141,7 +141,7 @@ impl<F: Store, S: Store> Store for JoinedStore<F, S> {
         }
     }
 
-    // A round is at most one round of each part.
+    // A round is at most one round of each part. The two directions, `fetch` and `put`, differ in every clause.
     fn fetch(&mut self, places: &[u32], keys: &mut [u32], bytes: &mut [u8]) -> Result<(), Refusal>
         ensures answer { result ≡ answer (state_of F.Store.state S.Store.state self.old) places.now (length keys.old) (length bytes.old) }
         ensures state { state_of F.Store.state S.Store.state self.new ≡ (if is_ok result then ran (state_of F.Store.state S.Store.state self.old) (fetch_round (state_of F.Store.state S.Store.state self.old) places.now) else state_of F.Store.state S.Store.state self.old) }

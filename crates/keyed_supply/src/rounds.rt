@@ -63,7 +63,7 @@ impl<'a> Permutation<'a> {
         words[0] % (1 << bits)
     }
 
-    // The left half after an even round.
+    // The left half after an even round. The rules name even and odd rounds apart.
     fn change_left(&self, words: &mut [u32; 16], round: u32, left: u32, right: u32) -> u32
         ensures { result ≡ left_changed (network_of self.now) round left right }
     {

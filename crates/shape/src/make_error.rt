@@ -14,6 +14,7 @@ pub enum MakeError {
     NoMemory,
 }
 
+// A conversion from each cause.
 impl From<Refusal> for MakeError {
     ghost from_gives = { λ refusal r. r ≡ Refused refusal };
 

@@ -27,6 +27,7 @@ pub enum Refusal {
 }
 
 impl Refusal {
+    // Number and meaning are what the rules give; `Display` is made of them.
     pub fn number(self) -> u32
         ensures { result ≡ number_of self }
     {

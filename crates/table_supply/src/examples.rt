@@ -16,7 +16,7 @@ fn made(heap: Global, levels: u32, builds: u32, table: &[u32]) -> Result<TableSu
     Ok(TableSupply::new(heap, levels, builds, table.to_vec(heap)?)?)
 }
 
-// The number of the refusal, if there is one; fails where the table does not come back as it was.
+// The number of the refusal, as the rules give it, if there is one; fails where the table does not come back as it was.
 fn taken(heap: Global, levels: u32, builds: u32, table: &[u32]) -> Result<Result<(), u32>, Fail> {
     let (slots, verdict) = match TableSupply::new(heap, levels, builds, table.to_vec(heap)?) {
         Ok(supply) => (supply.into_slots(), Ok(())),
