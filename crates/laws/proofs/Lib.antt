@@ -40,6 +40,7 @@ pub mod Gathering
 pub mod Written
 pub mod AfterLoad
 pub mod AfterRebuild
+pub mod Seats
 pub mod LevelsAt
 pub mod Reading
 pub mod Accepted
