@@ -1,10 +1,11 @@
 // What a program is asked, what can be wrong with it, and how it ends.
 #![tactic(auto)]
 
-ghost use Rattle.std.specs.Prelude.{◌≡◌, Some, IfOk, IsOkUnless, is_ok, if◌then◌else◌, option_map, string_bytes};
+ghost use Rattle.std.specs.Prelude.{◌≡◌, ◌≢◌, Some, IfOk, IsOkUnless, MatchResult, length, is_ok, if◌then◌else◌, option_map, string_bytes};
+ghost use Rattle.std.specs.Iterator.Adapters.{skip_count};
 ghost use Rattle.std.specs.Process.{exit_status};
 ghost use Rattle.shape.specs.declared.refusal.Refusal.{Refusal};
-ghost use Rattle.fault.specs.declared.Fault.TheVariants.{NoMemory, Refused};
+ghost use Rattle.fault.specs.declared.Fault.TheVariants.{NoKey, NoMemory, Refused};
 ghost use Rattle.fault.specs.Words.{Reads, fault_of, fault_text};
 
 use shape::make_error::MakeError;
@@ -74,7 +75,8 @@ impl From<MakeError> for Fault {
 
 // The words after the program's name.
 pub fn words<R: AllocGlobal + Env>(rt: &R) -> Result<Skip<Args>, Fault>
-    ensures { IsOkUnless result Fault.NoMemory }
+    ensures outcome { IsOkUnless result Fault.NoMemory }
+    ensures name_left_out { IfOk result (λ words. skip_count words ≡ 1) }
 {
     Ok(env::args(rt).map_err(|_| Fault::NoMemory)?.skip(1))
 }
@@ -88,12 +90,18 @@ where
     word?.as_str().parse().ok()
 }
 
-// The key in a file of 32 bytes.
+// A key is 32 bytes.
+pub fn key_of(bytes: &[u8]) -> Result<[u8; 32], Fault>
+    ensures { MatchResult result (λ key. key ≡ bytes.now) (λ fault. (length bytes.now ≢ 32) × (fault ≡ NoKey)) }
+{
+    <[u8; 32]>::try_from(bytes).map_err(|_| Fault::NoKey)
+}
+
+// The key in a file.
 pub fn read_key<R: AllocGlobal + Files>(rt: &R, path: &str) -> Result<[u8; 32], Fault>
     ensures { IsOkUnless result Fault.NoKey }
 {
-    let bytes = fs::read(rt, path).map_err(|_| Fault::NoKey)?;
-    <[u8; 32]>::try_from(bytes.as_slice()).map_err(|_| Fault::NoKey)
+    key_of(&fs::read(rt, path).map_err(|_| Fault::NoKey)?)
 }
 
 // Prints what came out, or one line on what is wrong.
