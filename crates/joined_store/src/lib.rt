@@ -1,7 +1,7 @@
 // Two stores of any kind, end to end.
 #![tactic(auto)]
 
-ghost use Rattle.std.specs.Prelude.{◌≡◌, ◌*◌, IfSome, IfOk, MatchResult, vec_len, length, is_ok, if◌then◌else◌};
+ghost use Rattle.std.specs.Prelude.{◌≡◌, ◌+◌, ◌*◌, Some, None, IfSome, IfOk, MatchResult, vec_len, length, is_ok, if◌then◌else◌};
 ghost use Rattle.store.specs.Requests.{ran};
 ghost use Rattle.store.specs.Rounds.{answer, fetch_round, put_round, keys_at, bytes_at};
 ghost use Rattle.joined_store.specs.Joined.{joins, common_width, newly_joined, fetch_of, put_of};
@@ -33,13 +33,16 @@ pub struct Unjoined<F, S> {
     pub second: S,
 }
 
-// Whether two stores fit together at a width.
-fn joins<F: Store, S: Store>(width: usize, first: &F, second: &S) -> bool
-    ensures { result ≡ joins width (F.Store.state first.now) (S.Store.state second.now) }
+// The places of two stores that fit together at a width. Each part is asked once, since it may be a joined store itself: asked twice, its
+// own parts would be asked four times.
+fn joined_places<F: Store, S: Store>(width: usize, first: &F, second: &S) -> Option<u32>
+    ensures { result ≡ (if joins width (F.Store.state first.now) (S.Store.state second.now) then Some (length (F.Store.state first.now).slots + length (S.Store.state second.now).slots) else None) }
 {
-    first.width() == width
+    let (m, n) = (first.places(), second.places());
+    let fits = first.width() == width
         && second.width() == width
-        && u64::from(first.places()) + u64::from(second.places()) <= 1_000_000
+        && u64::from(m) + u64::from(n) <= 1_000_000;
+    fits.then(|| m + n)
 }
 
 // The width at which the parts are joined; by the rules 0, with no places, where they do not fit.
@@ -47,11 +50,7 @@ fn common_width<F: Store, S: Store>(first: &F, second: &S) -> usize
     ensures { result ≡ common_width (F.Store.state first.now) (S.Store.state second.now) }
 {
     let width = first.width();
-    if joins(width, first, second) {
-        width
-    } else {
-        0
-    }
+    joined_places(width, first, second).map_or(0, |_| width)
 }
 
 // Room for the payloads of one round.
@@ -134,11 +133,7 @@ impl<F: Store, S: Store> Store for JoinedStore<F, S> {
     }
 
     fn places(&self) -> u32 {
-        if joins(self.width, &self.first, &self.second) {
-            self.first.places() + self.second.places()
-        } else {
-            0
-        }
+        joined_places(self.width, &self.first, &self.second).unwrap_or(0)
     }
 
     // A round is at most one round of each part. The two directions, `fetch` and `put`, differ in every clause.

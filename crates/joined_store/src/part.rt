@@ -1,5 +1,6 @@
 // Inner: the two parts of a joined store, and the share that each has of a round.
-ghost use Rattle.std.specs.Prelude.{◌≡◌, ◌+◌, ◌*◌, ◌≤◌, ◌++◌, Some, None, length, take, drop, if◌then◌else◌};
+ghost use Rattle.std.specs.Prelude.{◌≡◌, ◌+◌, ◌*◌, ◌≤◌, true, ◌++◌, Some, None, IfSome, length, take, drop, if◌then◌else◌};
+ghost use Rattle.std.specs.List.{list_all};
 ghost use Rattle.store.specs.Requests.{ran};
 ghost use Rattle.store.specs.Rounds.{keys_at, bytes_at};
 ghost use Rattle.joined_store.specs.Joined.{lies_in, numbered, places_in, items_in, fetch_of, put_of};
@@ -94,9 +95,28 @@ impl Side {
         }
     }
 
-    // Fills keys and bytes at the part's places, by one round at most; the part's keys, at most 13, lie in an array, as calls never allocate. Where all places are the part's, it works in the caller's buffers.
+    fn holds_all(self, places: &[u32]) -> bool
+        ensures { result ≡ list_all (λ p. lies_in self.part self.seam p) places.now }
+    {
+        places.iter().all(|&place| self.holds(place))
+    }
+
+    // Where the part's places begin, if they stand side by side at their end of the round: in front for the first part, behind for the second.
+    fn stretch(self, places: &[u32], count: usize) -> Option<usize>
+        requires { count ≤ length places.now }
+        ensures { IfSome result (λ from. (from + count ≤ length places.now) × (list_all (λ p. lies_in self.part self.seam p) (take count (drop from places.now)) ≡ true)) }
+    {
+        let from = match self.part {
+            Part::First => 0,
+            Part::Second => places.len() - count,
+        };
+        self.holds_all(&places[from..from + count]).then_some(from)
+    }
+
+    // Fills keys and bytes at the part's places, by one round at most. Where these stand side by side, as rising ones do, it works in the
+    // caller's buffers; else the part's keys, at most 13, lie in an array, and its payloads in staging, as calls never allocate.
     // This and `put` are the two directions of a round: places, keys and bytes come as `Store` takes them, and the clauses differ.
-    #[tactic(auto, using(crate::proofs::Shares::scattered_all, crate::proofs::Shares::scattered_none))]
+    #[tactic(auto, using(crate::proofs::Shares::scattered_none))]
     pub(crate) fn fetch<S: Store>(
         self,
         store: &mut S,
@@ -112,10 +132,18 @@ impl Side {
         ensures bytes { bytes.new ≡ scattered self.part self.seam (S.Store.state store.old).width places.now (bytes_at (S.Store.state store.old).slots (places_in self.part self.seam places.now)) bytes.old }
     {
         let own = self.pick(places);
-        if own.len() == places.len() {
-            let _ = store.fetch(&own, keys, bytes);
-        } else if !own.is_empty() {
-            let width = store.width();
+        if own.is_empty() {
+            return;
+        }
+        let width = store.width();
+        if let Some(from) = self.stretch(places, own.len()) {
+            let to = from + own.len();
+            let _ = store.fetch(
+                &own,
+                &mut keys[from..to],
+                &mut bytes[from * width..to * width],
+            );
+        } else {
             let own_keys = &mut [0; 13][..own.len()];
             let own_bytes = &mut staging[..own.len() * width];
             let _ = store.fetch(&own, own_keys, own_bytes);

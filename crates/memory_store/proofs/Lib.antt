@@ -1,1 +1,3 @@
+pub mod Bytes
+pub mod Meanings
 pub mod Written

@@ -1,2 +1,3 @@
+pub mod Emptiness
 pub mod Loads
 pub mod Suits
