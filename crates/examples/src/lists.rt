@@ -1,7 +1,7 @@
 // An index at the edges.
 use crate::parts::numbered;
 use bitmap_index::BitmapIndex;
-use gap_index::{GapIndex, Gaps};
+use gap_index::GapIndex;
 use index::Index;
 use shape::make_error::MakeError;
 use std::process::Abort;
