@@ -8,6 +8,9 @@ ghost use Rattle.shape.specs.declared.refusal.Refusal.{Refusal};
 ghost use Rattle.fault.specs.declared.Fault.TheVariants.{NoKey, NoMemory, Refused};
 ghost use Rattle.fault.specs.Words.{Reads, fault_of, fault_text};
 
+mod lines;
+
+use lines::print_lines;
 use shape::make_error::MakeError;
 use shape::refusal::Refusal;
 use std::alloc::AllocError;
@@ -114,7 +117,7 @@ pub fn finish<R: Eprint + Print, T: fmt::Display + Drop>(
 {
     match outcome {
         Ok(report) => {
-            print!(rt; "{report}")?;
+            print_lines(rt, report)?;
             Ok(ExitCode::SUCCESS)
         }
         Err(fault) => {
