@@ -4,7 +4,7 @@ use Rattle.std.specs.List.{slice_get}
 use Rattle.std.specs.Bool.{then_some}
 use Rattle.std.proofs.lemmas.Option.{slice_get_past}
 use Rattle.std.proofs.lemmas.List.{take_all, get_or_past}
-use Rattle.std.proofs.lemmas.List.Sums.{sum_by-cons, sum_by_more, sum_by-take-le}
+use Rattle.std.proofs.lemmas.List.Sums.{sum_by-cons, sum_by_push, sum_by_more, sum_by-take-le}
 use Rattle.std.proofs.lemmas.Bool.Decides.{nat_tests}
 use Rattle.index.specs.Lists.{Rising, has, smaller, above}
 use Rattle.index.specs.RowLists.{rank_in, blocks_small}
@@ -111,6 +111,9 @@ from_push f (x ∷ gs) a g e = grind (arith, from_push (f + x) gs a g (omega (ar
 -- the gap from the last member to an address above it adds that address
 pub listed_push : (gs : List ℕ) (a : ℕ) → sum gs ≤ a → listed (gs ++ (a + 1 - sum gs) ∷ []) ≡ listed gs ++ a ∷ []
 listed_push gs a h = from_push 0 gs a (a + 1 - sum gs) (omega arith)
+
+pub sum_push : (gs : List ℕ) (a : ℕ) → sum gs ≤ a → sum (gs ++ (a + 1 - sum gs) ∷ []) ≡ a + 1
+sum_push gs a h = omega (arith, sum_by_push (λ x. x) gs (a + 1 - sum gs))
 
 -- ---- above every member, and none
 
